@@ -1,3 +1,12 @@
 pub mod Cases
 pub mod Stars
 pub mod Readings
+pub mod Bools
+pub mod Split
+pub mod Digits
+pub mod ListingReaders
+pub mod ListingFields
+pub mod ListingInstructions
+pub mod ListingLines
+pub mod ListingValues
+pub mod RoundTrip

@@ -1,6 +1,5 @@
 -- The listing's text (document 01, 'Listing').
 use Prim.Native.Nat.{ℕ, suc}
-use Prim.Native.String.{String}
 use mathlib.Core.List.{List, [], _∷_, _++_, map}
 use mathlib.Core.Option.{Option, none, some}
 use lib.ListN.{length}
@@ -92,10 +91,10 @@ carry-operand (some s) = digits s
 unfoldable pub listed : {A : Type 0} → (A → List ℕ) → List A → List (List ℕ)
 listed f xs = digits (length xs) ∷ map f xs
 
-abbrev destinations : List Lir.ByteStorage → List (List ℕ)
+abbrev pub destinations : List Lir.ByteStorage → List (List ℕ)
 destinations ds = listed byte-storage ds
 
-abbrev operands : List Lir.ByteOperand → List (List ℕ)
+abbrev pub operands : List Lir.ByteOperand → List (List ℕ)
 operands bs = listed byte-operand bs
 
 unfoldable pub byte-binary-word : Lir.ByteBinaryOp → List ℕ

@@ -1,7 +1,7 @@
 -- A listing read back from its text: lines into fields, fields into operands. What is not in document 01's form reads as nothing.
 use Prim.Native.Nat.{ℕ, zero, suc}
 use Prim.Native.String.{String}
-use mathlib.Core.Bool.{Bool, true, false}
+use mathlib.Core.Bool.{true, false}
 use mathlib.Core.List.{List, [], _∷_}
 use mathlib.Core.Option.{Option, none, some}
 use lib.Dec.{eqb}
@@ -60,10 +60,10 @@ whole m xs = all-of (m xs)
 abbrev pub Field : Type 0
 Field = List ℕ
 
--- the n-th of a list, as an operator by its number
-unfoldable pub nth : {A : Type 0} → List A → ℕ → Option A
+-- the n-th of a list that has gaps, as an operator by its number
+unfoldable pub nth : {A : Type 0} → List (Option A) → ℕ → Option A
 nth [] n = none
-nth (x ∷ xs) zero = some x
+nth (x ∷ xs) zero = x
 nth (x ∷ xs) (suc n) = nth xs n
 
 -- ---------------------------------------------------------------- fields
@@ -86,7 +86,7 @@ byte-storage-parts (a ∷ b ∷ c ∷ cs) = none
 unfoldable pub byte-storage-of : Field → Option Lir.ByteStorage
 byte-storage-of f = byte-storage-parts (split 46 f)
 
-abbrev mapped : {A B : Type 0} → (A → B) → Option A → Option B
+abbrev pub mapped : {A B : Type 0} → (A → B) → Option A → Option B
 mapped f none = none
 mapped f (some a) = some (f a)
 
@@ -105,16 +105,16 @@ unfoldable pub carry-of : Field → Option (Option ℕ)
 carry-of [] = none
 carry-of (b ∷ f) = elim (same (b ∷ f) (45 ∷ [])) [ true ↦ some none | false ↦ mapped some (numeral (b ∷ f)) ]
 
-abbrev byte-storage : Reader Field Lir.ByteStorage
+abbrev pub byte-storage : Reader Field Lir.ByteStorage
 byte-storage = next byte-storage-of
 
-abbrev byte-operand : Reader Field Lir.ByteOperand
+abbrev pub byte-operand : Reader Field Lir.ByteOperand
 byte-operand = next byte-operand-of
 
-abbrev bit-operand : Reader Field Lir.BitOperand
+abbrev pub bit-operand : Reader Field Lir.BitOperand
 bit-operand = next bit-operand-of
 
-abbrev carry : Reader Field (Option ℕ)
+abbrev pub carry : Reader Field (Option ℕ)
 carry = next carry-of
 
 -- a count, then as many items
@@ -123,7 +123,7 @@ listed m = do
   n ← number
   times n m
 
-abbrev chosen : {A : Type 0} → Option A → Reader Field A
+abbrev pub chosen : {A : Type 0} → Option A → Reader Field A
 chosen none = λ xs. none
 chosen (some a) = pure a
 
@@ -131,11 +131,7 @@ chosen (some a) = pure a
 unfoldable pub one-of : {A : Type 0} → List (Option A) → Reader Field A
 one-of ops = do
   n ← number
-  chosen (given (nth ops n))
-  where
-    given : {A : Type 0} → Option (Option A) → Option A
-    given none = none
-    given (some o) = o
+  chosen (nth ops n)
 
 unfoldable pub shift-ops : List (Option Lir.ShiftOp)
 shift-ops = some Lir.shift-left ∷ some Lir.shift-right-unsigned ∷ some Lir.shift-right-signed ∷ some Lir.rotate-left ∷ some Lir.rotate-right ∷ []
@@ -305,35 +301,31 @@ unfoldable pub find : {A : Type 0} → List (Word A) → Field → Reader Field 
 find [] f = λ xs. none
 find (w ∷ ws) f = elim (same (text.bytes (w .name)) f) [ true ↦ w .reads | false ↦ find ws f ]
 
-unfoldable pub instruction-kind : Reader Field Lir.InstructionKind
-instruction-kind [] = none
-instruction-kind (f ∷ fs) = find instruction-words f fs
+-- a word of the list, then its fields
+unfoldable pub headed : {A : Type 0} → List (Word A) → Reader Field A
+headed ws [] = none
+headed ws (f ∷ fs) = find ws f fs
+
+abbrev pub instruction-kind : Reader Field Lir.InstructionKind
+instruction-kind = headed instruction-words
 
 -- ---------------------------------------------------------------- lines
 
 abbrev pub Line : Type 0
 Line = List Field
 
--- the fields behind a line's word
-abbrev behind : String → Line → Option (List Field)
-behind w [] = none
-behind w (f ∷ fs) = elim (same (text.bytes w) f) [ true ↦ some fs | false ↦ none ]
-
-abbrev read-behind : {A : Type 0} → Reader Field A → Option (List Field) → Option A
-read-behind m none = none
-read-behind m (some fs) = whole m fs
-
 -- a line that begins with a word, its fields read by m
 unfoldable pub line-of : {A : Type 0} → String → Reader Field A → Line → Option A
-line-of w m l = read-behind m (behind w l)
+line-of w m [] = none
+line-of w m (f ∷ fs) = elim (same (text.bytes w) f) [ true ↦ whole m fs | false ↦ none ]
+
+abbrev more : {A : Type 0} → A → Got Line (List A) → Got Line (List A)
+more a g = record { it = a ∷ g .it; rest = g .rest }
 
 -- as many lines as f reads, then the rest
 unfoldable pub lines-of : {A : Type 0} → (Line → Option A) → List Line → Got Line (List A)
 lines-of f [] = record { it = []; rest = [] }
-lines-of {A} f (l ∷ ls) = elim (f l) [ none ↦ record { it = []; rest = l ∷ ls } | some a ↦ more a (lines-of f ls) ]
-  where
-    more : A → Got Line (List A) → Got Line (List A)
-    more a g = record { it = a ∷ g .it; rest = g .rest }
+lines-of f (l ∷ ls) = elim (f l) [ none ↦ record { it = []; rest = l ∷ ls } | some a ↦ more a (lines-of f ls) ]
 
 unfoldable pub several : {A : Type 0} → (Line → Option A) → Reader Line (List A)
 several f ls = some (lines-of f ls)
@@ -401,9 +393,8 @@ aggregate-shape = do
 unfoldable pub shape-words : List (Word Shape)
 shape-words = word "unit" (pure (plain Lir.unit)) ∷ word "bit" bit-shape ∷ word "bytes" bytes-shape ∷ word "aggregate" aggregate-shape ∷ []
 
-unfoldable pub shape : Reader Field Shape
-shape [] = none
-shape (f ∷ fs) = find shape-words f fs
+abbrev pub shape : Reader Field Shape
+shape = headed shape-words
 
 unfoldable pub top : Reader Field Top
 top = do
@@ -453,9 +444,14 @@ lines-in [] = none
 lines-in (l ∷ []) = elim l [ [] ↦ some [] | x ∷ xs ↦ none ]
 lines-in (l ∷ m ∷ ls) = mapped (λ ks. l ∷ ks) (lines-in (m ∷ ls))
 
-abbrev read-lines : Option (List (List ℕ)) → Option Lir.Listing
+-- the lines of a text, each as its fields
+unfoldable pub lines : List ℕ → Option (List Line)
+lines s = mapped fields-of-lines (lines-in (split line-feed s))
+
+-- no value is deeper than there are lines
+abbrev read-lines : Option (List Line) → Option Lir.Listing
 read-lines none = none
-read-lines (some ls) = whole (listing (length ls)) (fields-of-lines ls)
+read-lines (some ls) = whole (listing (length ls)) ls
 
 unfoldable pub read-listing : List ℕ → Option Lir.Listing
-read-listing s = read-lines (lines-in (split line-feed s))
+read-listing s = read-lines (lines s)

@@ -1,6 +1,6 @@
 -- Texts as lists of bytes: literals, lines and fields, decimal numbers (document 01, 'Ticket').
 use Prim.Native.Nat.{ℕ, zero, suc, _+_, _-_, _*_, _/_, _%_, _^_}
-use Prim.Native.Char.{Char, code}
+use Prim.Native.Char.{code}
 use Prim.Native.String.{String, [] as []ˢ, _∷_ as _∷ˢ_}
 use mathlib.Core.Bool.{Bool, true, false, _&&_, not}
 use mathlib.Core.List.{List, [], _∷_, _++_}
@@ -82,7 +82,7 @@ good-start (d ∷ e ∷ ds) = not (eqb d 48)
 unfoldable pub numeral : List ℕ → Option ℕ
 numeral f = elim (good-start f && all-digits f) [ true ↦ some (horner 0 f) | false ↦ none ]
 
-abbrev below-2^64 : Option ℕ → Option ℕ
+abbrev pub below-2^64 : Option ℕ → Option ℕ
 below-2^64 none = none
 below-2^64 (some n) = elim (ltb n (2 ^ 64)) [ true ↦ some n | false ↦ none ]
 

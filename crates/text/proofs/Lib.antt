@@ -1,0 +1,5 @@
+pub mod Printing
+pub mod Steps
+pub mod Positions
+pub mod Words
+pub mod Parts

@@ -1,0 +1,190 @@
+// Texts as bytes: decimal numbers, fields and lines.
+ghost use mathlib.Core.Path.{_≡_};
+ghost use mathlib.Core.List.{[], _∷_};
+ghost use Rattle.spec.specs.Text.{digits};
+ghost use Rattle.text.specs.Put.{Put};
+ghost use Rattle.text.specs.Field.{ends-field, number-at, byte-at, word-at, next-number-at};
+ghost use Rattle.text.specs.Step.{Step};
+
+// One byte; where there is no room it is dropped.
+pub fn put(buf: &mut [u8], at: usize, b: u8) -> usize
+    ensures { λ r. ⌜ Put (now (buf .entry)) at (b ∷ []) (now (buf .exit)) r ⌝ }
+{
+    if at < buf.len() {
+        buf[at] = b;
+        at + 1
+    } else if at < 18446744073709551615 {
+        at + 1
+    } else {
+        at
+    }
+}
+
+// A number in decimal digits.
+pub fn print_number(buf: &mut [u8], at: usize, n: u64) -> usize
+    ensures { λ r. ⌜ Put (now (buf .entry)) at (digits n) (now (buf .exit)) r ⌝ }
+{
+    if n < 10 {
+        put(buf, at, (48 + n) as u8)
+    } else {
+        let next = print_number(buf, at, n / 10);
+        put(buf, next, (48 + n % 10) as u8)
+    }
+}
+
+// The bytes of w.
+pub fn print_bytes(buf: &mut [u8], at: usize, w: &[u8]) -> usize
+    ensures { λ r. ⌜ Put (now (buf .entry)) at (now (w .entry)) (now (buf .exit)) r ⌝ }
+{
+    let mut p = at;
+    let mut i: usize = 0;
+    while i < w.len() {
+        p = put(buf, p, w[i]);
+        i += 1;
+    }
+    p
+}
+
+// A position of a text.
+pub struct Cursor {
+    pub at: usize,
+}
+
+// A number and where its field ends, or what is no number.
+pub enum Decimal {
+    Value(u64, Cursor),
+    Malformed,
+}
+
+// The position behind what has to stand at a position.
+pub enum Expected {
+    Next(Cursor),
+    Missing,
+}
+
+// What a byte does behind digits.
+pub enum Digit {
+    More(u64),
+    Stop,
+    Bad,
+}
+
+fn digit_step(value: u64, byte: u8) -> Digit
+    ensures { λ r. ⌜ Step value byte r ⌝ }
+{
+    if byte == 44 {
+        return Digit::Stop;
+    }
+    if byte == 10 {
+        return Digit::Stop;
+    }
+    if byte < 48 {
+        return Digit::Bad;
+    }
+    if 57 < byte {
+        return Digit::Bad;
+    }
+    if value == 0 {
+        return Digit::Bad;
+    }
+    let digit = (byte - 48) as u64;
+    if (18446744073709551615 - digit) / 10 < value {
+        return Digit::Bad;
+    }
+    Digit::More(value * 10 + digit)
+}
+
+// The number in the field at the cursor, and the position behind that field.
+pub fn number(text: &[u8], cursor: Cursor) -> Decimal
+    ensures { λ r. ⌜ r ≡ number-at (now (text .entry)) (cursor .at) ⌝ }
+{
+    let at = cursor.at;
+    if text.len() <= at {
+        return Decimal::Malformed;
+    }
+    let first = text[at];
+    if first < 48 {
+        return Decimal::Malformed;
+    }
+    if 57 < first {
+        return Decimal::Malformed;
+    }
+    let mut value = (first - 48) as u64;
+    let mut i = at + 1;
+    while i < text.len() {
+        let byte = text[i];
+        match digit_step(value, byte) {
+            Digit::More(larger) => {
+                value = larger;
+                i += 1;
+            }
+            Digit::Stop => {
+                return Decimal::Value(value, Cursor { at: i });
+            }
+            Digit::Bad => {
+                return Decimal::Malformed;
+            }
+        }
+    }
+    Decimal::Value(value, Cursor { at: i })
+}
+
+// One byte that has to stand at the cursor.
+pub fn expect(text: &[u8], cursor: Cursor, byte: u8) -> Expected
+    ensures { λ r. ⌜ r ≡ byte-at (now (text .entry)) (cursor .at) byte ⌝ }
+{
+    let at = cursor.at;
+    if text.len() <= at {
+        return Expected::Missing;
+    }
+    if text[at] == byte {
+        Expected::Next(Cursor { at: at + 1 })
+    } else {
+        Expected::Missing
+    }
+}
+
+// A comma at the cursor, and the number in the field behind it.
+pub fn next_number(text: &[u8], cursor: Cursor) -> Decimal
+    ensures { λ r. ⌜ r ≡ next-number-at (now (text .entry)) (cursor .at) ⌝ }
+{
+    let Expected::Next(next) = expect(text, cursor, b',') else {
+        return Decimal::Malformed;
+    };
+    number(text, next)
+}
+
+fn ends_field(byte: u8) -> bool
+    ensures { λ r. ⌜ r ≡ ends-field byte ⌝ }
+{
+    byte == b',' || byte == b'\n'
+}
+
+// The word w as the whole field at the cursor.
+pub fn word(text: &[u8], cursor: Cursor, w: &[u8]) -> Expected
+    ensures { λ r. ⌜ r ≡ word-at (now (text .entry)) (cursor .at) (now (w .entry)) ⌝ }
+{
+    let mut i = cursor.at;
+    let mut j: usize = 0;
+    while j < w.len() {
+        if text.len() <= i {
+            return Expected::Missing;
+        }
+        if ends_field(text[i]) {
+            return Expected::Missing;
+        }
+        if text[i] != w[j] {
+            return Expected::Missing;
+        }
+        i += 1;
+        j += 1;
+    }
+    if text.len() <= i {
+        return Expected::Next(Cursor { at: i });
+    }
+    if ends_field(text[i]) {
+        Expected::Next(Cursor { at: i })
+    } else {
+        Expected::Missing
+    }
+}
