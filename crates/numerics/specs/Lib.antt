@@ -1,1 +1,2 @@
 pub mod Numerics
+pub mod Functions

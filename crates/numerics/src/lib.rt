@@ -1,1 +1,48 @@
-// Definitions.
+// The integer operations of the WebAssembly Core Specification, chapter Numerics, at a width n from 1 to 64.
+// Operands are read modulo 2^n. At any other width the answer is 0, or Undefined.
+mod arithmetic;
+mod bits;
+mod compare;
+mod convert;
+mod saturate;
+mod width;
+
+pub use arithmetic::Quotient;
+pub use arithmetic::iadd;
+pub use arithmetic::idiv_s;
+pub use arithmetic::idiv_u;
+pub use arithmetic::imul;
+pub use arithmetic::ineg;
+pub use arithmetic::irem_s;
+pub use arithmetic::irem_u;
+pub use arithmetic::isub;
+pub use bits::iand;
+pub use bits::iclz;
+pub use bits::ictz;
+pub use bits::inot;
+pub use bits::ior;
+pub use bits::ipopcnt;
+pub use bits::irotl;
+pub use bits::irotr;
+pub use bits::ishl;
+pub use bits::ishr_s;
+pub use bits::ishr_u;
+pub use bits::ixor;
+pub use compare::ieq;
+pub use compare::ieqz;
+pub use compare::ige_s;
+pub use compare::ige_u;
+pub use compare::igt_s;
+pub use compare::igt_u;
+pub use compare::ile_s;
+pub use compare::ile_u;
+pub use compare::ilt_s;
+pub use compare::ilt_u;
+pub use compare::ine;
+pub use convert::extend_s;
+pub use convert::extend_u;
+pub use convert::wrap;
+pub use saturate::iadd_sat_s;
+pub use saturate::iadd_sat_u;
+pub use saturate::isub_sat_s;
+pub use saturate::isub_sat_u;

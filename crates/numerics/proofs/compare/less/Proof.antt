@@ -1,0 +1,13 @@
+-- `numerics::compare::less` meets its contract: each answer, from its test. Assumes nothing.
+use borrow.Author.Tests.{lt-ltb, le-ltb}
+use Rattle.numerics.proofs.compare.less.Statement.{statement}
+use Rattle.numerics.proofs.compare.less.Tie as tie
+
+returns : tie.Need-returns
+returns c = rw (lt-ltb _ _ (c .if1 .taken))
+
+returns-2 : tie.Need-returns-2
+returns-2 c = rw (le-ltb _ _ (c .if1 .left))
+
+pub less-spec : {M : Type 1} → statement M
+less-spec = tie.close (tie.spec returns returns-2)
