@@ -10,3 +10,17 @@ pub mod ListingInstructions
 pub mod ListingLines
 pub mod ListingValues
 pub mod RoundTrip
+pub mod ReadingLists
+pub mod ReadingTests
+pub mod ReadingForms
+pub mod ReadingLines
+pub mod ReadingTypes
+pub mod ReadingArgs
+pub mod ReadingTypeLine
+pub mod ReadingPool
+pub mod ReadingMarks
+pub mod ReadingTree
+pub mod ReadingTables
+pub mod ReadingPlaced
+pub mod ReadingSums
+pub mod ReadingTicket

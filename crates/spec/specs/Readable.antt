@@ -9,7 +9,6 @@ use Rattle.spec.specs.Limits.{
 }
 use Rattle.spec.specs.Ticket.{
   TypeWord, tUnit, tBool, tBits, tFloat, tPointer, tArray, tStruct, tTuple, tOpaque,
-  PlaceWord, pVariable, pStatic, pField, pElement, pOffset,
   NodeWord, nBool, nInt, nF32, nF64, nNull, nStaticAddress, nFunction, nRead, nUnary, nBinary, nFunary, nFbinary,
   nCompare, nConvert, nSelect, nAddress, nOffset, nAggregate, nExtract, nInsert,
   TypeLine, StorageLine, PlacedLine, PlaceLine, NodeLine, Tables, noType, typeAt, storageAt, placeLineAt, nodeAt, arg, type-size-by, weight-by, sum, type-size-in, exprAt,
@@ -34,43 +33,7 @@ type-parts tStruct xs = xs
 type-parts tTuple xs = xs
 type-parts tOpaque xs = []
 
--- the places that a place or a node refers to, and the nodes
-unfoldable pub places-of-place : PlaceWord → List ℕ → List ℕ
-places-of-place pVariable xs = []
-places-of-place pStatic xs = []
-places-of-place pField xs = arg xs 0 ∷ []
-places-of-place pElement xs = arg xs 0 ∷ []
-places-of-place pOffset xs = arg xs 0 ∷ []
-
-unfoldable pub nodes-of-place : PlaceWord → List ℕ → List ℕ
-nodes-of-place pVariable xs = []
-nodes-of-place pStatic xs = []
-nodes-of-place pField xs = []
-nodes-of-place pElement xs = arg xs 1 ∷ []
-nodes-of-place pOffset xs = arg xs 1 ∷ []
-
-unfoldable pub places-of-node : NodeWord → List ℕ → List ℕ
-places-of-node nBool xs = []
-places-of-node nInt xs = []
-places-of-node nF32 xs = []
-places-of-node nF64 xs = []
-places-of-node nNull xs = []
-places-of-node nStaticAddress xs = []
-places-of-node nFunction xs = []
-places-of-node nRead xs = arg xs 0 ∷ []
-places-of-node nUnary xs = []
-places-of-node nBinary xs = []
-places-of-node nFunary xs = []
-places-of-node nFbinary xs = []
-places-of-node nCompare xs = []
-places-of-node nConvert xs = []
-places-of-node nSelect xs = []
-places-of-node nAddress xs = arg xs 0 ∷ []
-places-of-node nOffset xs = []
-places-of-node nAggregate xs = []
-places-of-node nExtract xs = []
-places-of-node nInsert xs = []
-
+-- the nodes that a node refers to
 unfoldable pub nodes-of-node : NodeWord → List ℕ → List ℕ
 nodes-of-node nBool xs = []
 nodes-of-node nInt xs = []
