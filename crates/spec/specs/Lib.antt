@@ -23,3 +23,6 @@ pub mod Machine
 pub mod Typed
 pub mod Eval
 pub mod Demands
+pub mod RunNeeds
+pub mod RunClaims
+pub mod RunCases

@@ -1,0 +1,40 @@
+-- The line by its parts.
+use borrow.Author.Needs.{needs}
+use Rattle.lir.specs.PutFields.{whole-instruction, others}
+use Rattle.spec.specs.Print.{instruction-line, instruction-fields}
+use Rattle.lir.proofs.print_address.Statement.{statement}
+use Rattle.lir.proofs.print_address.Tie as tie
+
+slice-aggregate-print-bytes : tie.Need-slice-aggregate-print-bytes
+slice-aggregate-print-bytes c = search needs
+
+print-bytes-requires : tie.Need-print-bytes-requires
+print-bytes-requires c κs = search needs
+
+two-places-requires : tie.Need-two-places-requires
+two-places-requires c κs = search needs
+
+two-numbers-requires : tie.Need-two-numbers-requires
+two-numbers-requires c κs = search needs
+
+put-requires : tie.Need-put-requires
+put-requires c κs = search needs
+
+same-length : tie.Need-same-length
+same-length c = search needs
+
+returns : tie.Need-returns
+unfolding instruction-line instruction-fields
+returns c = whole-instruction (c .before .before .before .before .before .before .before .before .before .before .before .before .before .before .print-bytes .ensures) (others (c .before .before .before .before .before .before .before .before .before .before .two-places .ensures) (c .before .before .before .before .before .before .two-numbers .ensures)) (c .before .before .put .ensures)
+
+pub print-address-spec : {M : Type 1} → statement M
+print-address-spec =
+    tie.close
+    (tie.spec
+    slice-aggregate-print-bytes
+    print-bytes-requires
+    two-places-requires
+    two-numbers-requires
+    put-requires
+    same-length
+    returns)

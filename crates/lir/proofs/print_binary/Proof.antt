@@ -1,0 +1,40 @@
+-- The line by its parts.
+use borrow.Author.Needs.{needs}
+use Rattle.lir.specs.PutFields.{whole-instruction}
+use Rattle.spec.specs.Print.{instruction-line, instruction-fields}
+use Rattle.lir.proofs.print_binary.Statement.{statement}
+use Rattle.lir.proofs.print_binary.Tie as tie
+
+binary-number-requires : tie.Need-binary-number-requires
+binary-number-requires c κs = search needs
+
+slice-aggregate-print-bytes : tie.Need-slice-aggregate-print-bytes
+slice-aggregate-print-bytes c = search needs
+
+print-bytes-requires : tie.Need-print-bytes-requires
+print-bytes-requires c κs = search needs
+
+binary-fields-requires : tie.Need-binary-fields-requires
+binary-fields-requires c κs = search needs
+
+put-requires : tie.Need-put-requires
+put-requires c κs = search needs
+
+same-length : tie.Need-same-length
+same-length c = search needs
+
+returns : tie.Need-returns
+unfolding instruction-line instruction-fields
+returns c = whole-instruction (c .before .before .before .before .before .before .before .before .before .before .print-bytes .ensures) (rw (c .before .before .before .before .before .before .before .before .before .before .before .before .before .binary-number .ensures) at (c .before .before .before .before .before .before .binary-fields .ensures)) (c .before .before .put .ensures)
+
+pub print-binary-spec : {M : Type 1} → statement M
+print-binary-spec =
+    tie.close
+    (tie.spec
+    binary-number-requires
+    slice-aggregate-print-bytes
+    print-bytes-requires
+    binary-fields-requires
+    put-requires
+    same-length
+    returns)

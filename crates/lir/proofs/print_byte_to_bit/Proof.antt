@@ -1,0 +1,40 @@
+-- The line by its parts.
+use borrow.Author.Needs.{needs}
+use Rattle.lir.specs.PutFields.{whole-instruction, others}
+use Rattle.spec.specs.Print.{instruction-line, instruction-fields}
+use Rattle.lir.proofs.print_byte_to_bit.Statement.{statement}
+use Rattle.lir.proofs.print_byte_to_bit.Tie as tie
+
+slice-aggregate-print-bytes : tie.Need-slice-aggregate-print-bytes
+slice-aggregate-print-bytes c = search needs
+
+print-bytes-requires : tie.Need-print-bytes-requires
+print-bytes-requires c κs = search needs
+
+field-number-requires : tie.Need-field-number-requires
+field-number-requires c κs = search needs
+
+field-byte-requires : tie.Need-field-byte-requires
+field-byte-requires c κs = search needs
+
+put-requires : tie.Need-put-requires
+put-requires c κs = search needs
+
+same-length : tie.Need-same-length
+same-length c = search needs
+
+returns : tie.Need-returns
+unfolding instruction-line instruction-fields
+returns c = whole-instruction (c .before .before .before .before .before .before .before .before .before .before .before .before .before .before .print-bytes .ensures) (others (c .before .before .before .before .before .before .before .before .before .before .field-number .ensures) (c .before .before .before .before .before .before .field-byte .ensures)) (c .before .before .put .ensures)
+
+pub print-byte-to-bit-spec : {M : Type 1} → statement M
+print-byte-to-bit-spec =
+    tie.close
+    (tie.spec
+    slice-aggregate-print-bytes
+    print-bytes-requires
+    field-number-requires
+    field-byte-requires
+    put-requires
+    same-length
+    returns)

@@ -1,0 +1,4 @@
+pub mod Abstract
+pub mod Sound
+pub mod PutFields
+pub mod Lines
