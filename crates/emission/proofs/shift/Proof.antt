@@ -1,0 +1,35 @@
+-- `emission::shift` meets its contract: refused without a width.
+use Prim.Native.Nat.{_-_}
+use native.Mathlib.Omega.{arith}
+use borrow.Author.Needs.{needs}
+use Rattle.spec.specs.Arithmetic.{binary-instructions, shifts}
+use Rattle.lir.specs.Abstract.{shift-op-of, destinations-of, bytes-of}
+use Rattle.emission.specs.Loops.{shifts-few}
+use Rattle.emission.specs.Forms.{codes-width, codes-refused}
+use Rattle.emission.proofs.shift.Statement.{statement}
+use Rattle.emission.proofs.shift.Tie as tie
+
+enum-told : tie.Need-enum-told
+enum-told c = search needs
+
+enum-known-width : tie.Need-enum-known-width
+enum-known-width c = search needs
+
+shift-bytes-requires : tie.Need-shift-bytes-requires
+shift-bytes-requires c κs = search needs
+
+returns : tie.Need-returns
+unfolding binary-instructions
+returns c = let a = c .before .before .before .args in λ T ty w. codes-refused (λ x. shifts (shift-op-of (a .op)) x (destinations-of (a .d)) (bytes-of (a .l)) (bytes-of (a .r))) (rw (c .enum-told .given .1) at w)
+
+same-length : tie.Need-same-length
+same-length c = search needs
+
+returns-2 : tie.Need-returns-2
+unfolding binary-instructions
+returns-2 c = let a = c .before .before .before .before .before .before .before .before .args in λ T ty w. codes-width (λ x. shifts (shift-op-of (a .op)) x (destinations-of (a .d)) (bytes-of (a .l)) (bytes-of (a .r))) (rw (c .before .before .before .before .before .width .given .1) at w) (omega arith) (shifts-few _ _ _ _ _) (c .before .before .shift-bytes .ensures)
+
+pub shift-spec : {M : Type 1} → statement M
+shift-spec =
+    tie.close
+    (tie.spec enum-told enum-known-width shift-bytes-requires returns same-length returns-2)

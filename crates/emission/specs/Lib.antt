@@ -1,0 +1,9 @@
+pub mod Appends
+pub mod Tabs
+pub mod Operands
+pub mod Emits
+pub mod Kinds
+pub mod Does
+pub mod Loops
+pub mod Temporaries
+pub mod Forms

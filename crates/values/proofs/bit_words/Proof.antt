@@ -1,0 +1,25 @@
+use borrow.Author.Needs.{needs}
+use native.Mathlib.Omega.{arith}
+use mathlib.Core.Path.{_≡_, refl, sym, _∙_}
+use Prim.Native.Nat.{_≤_, _-_, _<_, _+_}
+use lib.ListN.{length, take, getD}
+use mathlib.Core.List.{List, [], _∷_, _++_}
+use Rattle.values.proofs.bit_words.Statement.{statement}
+use Rattle.values.proofs.bit_words.Tie as tie
+use Rattle.values.proofs.bit_words.Reads as reads
+use Rattle.values.proofs.bit_words.Lts as lts
+
+enum-known-b : tie.Need-enum-known-b
+enum-known-b c = search needs
+
+enum-known-b-2 : tie.Need-enum-known-b-2
+enum-known-b-2 c = search needs
+
+returns : tie.Need-returns
+returns c = rw (c .before .b .given .1)
+
+returns-2 : tie.Need-returns-2
+returns-2 c = rw (c .before .b2 .given .1)
+
+pub bit-words-spec : {M : Type 1} → statement M
+bit-words-spec = tie.close (tie.spec enum-known-b enum-known-b-2 returns returns-2)

@@ -1,0 +1,25 @@
+use borrow.Author.Needs.{needs}
+use native.Mathlib.Omega.{arith}
+use mathlib.Core.Path.{_≡_, refl, sym, _∙_}
+use Prim.Native.Nat.{_≤_, _-_, _<_, _+_}
+use lib.ListN.{length, take, getD}
+use mathlib.Core.List.{List, [], _∷_, _++_}
+use Rattle.values.proofs.bytes_words.Statement.{statement}
+use Rattle.values.proofs.bytes_words.Tie as tie
+use Rattle.values.proofs.bytes_words.Reads as reads
+use Rattle.values.proofs.bytes_words.Lts as lts
+
+enum-known-source : tie.Need-enum-known-source
+enum-known-source c = search needs
+
+enum-known-source-2 : tie.Need-enum-known-source-2
+enum-known-source-2 c = search needs
+
+returns : tie.Need-returns
+returns c = rw (c .before .source .given .1)
+
+returns-2 : tie.Need-returns-2
+returns-2 c = rw (c .before .source2 .given .1)
+
+pub bytes-words-spec : {M : Type 1} → statement M
+bytes-words-spec = tie.close (tie.spec enum-known-source enum-known-source-2 returns returns-2)

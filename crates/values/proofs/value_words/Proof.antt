@@ -1,0 +1,62 @@
+use borrow.Author.Needs.{needs}
+use native.Mathlib.Omega.{arith}
+use mathlib.Core.Path.{_≡_, refl, sym, _∙_}
+use Prim.Native.Nat.{_≤_, _-_, _<_, _+_}
+use lib.ListN.{length, take, getD}
+use mathlib.Core.List.{List, [], _∷_, _++_}
+use Rattle.values.specs.Left.{value-words}
+use Rattle.values.proofs.value_words.Statement.{statement}
+use Rattle.values.proofs.value_words.Tie as tie
+use Rattle.values.proofs.value_words.Reads as reads
+use Rattle.values.proofs.value_words.Lts as lts
+use Rattle.values.proofs.bit_words.Reads as bit-words-reads
+use Rattle.values.proofs.bytes_words.Reads as bytes-words-reads
+
+enum-told : tie.Need-enum-told
+enum-told c = search needs
+
+enum-known-repr : tie.Need-enum-known-repr
+enum-known-repr c = search needs
+
+bit-words-requires : tie.Need-bit-words-requires
+bit-words-requires c κs = search needs
+
+enum-known-repr-2 : tie.Need-enum-known-repr-2
+enum-known-repr-2 c = search needs
+
+bytes-words-requires : tie.Need-bytes-words-requires
+bytes-words-requires c κs = search needs
+
+enum-known-repr-3 : tie.Need-enum-known-repr-3
+enum-known-repr-3 c = search needs
+
+returns : tie.Need-returns
+unfolding value-words
+returns c = rw (c .enum-told .given .1)
+
+returns-2 : tie.Need-returns-2
+unfolding value-words
+returns-2 c = rw (c .before .before .repr .given .1) (c .bit-words .ensures)
+
+returns-3 : tie.Need-returns-3
+unfolding value-words
+returns-3 c = rw (c .before .before .repr2 .given .1) (c .bytes-words .ensures)
+
+returns-4 : tie.Need-returns-4
+unfolding value-words
+returns-4 c = rw (c .before .repr3 .given .1)
+
+pub value-words-spec : {M : Type 1} → statement M
+value-words-spec =
+    tie.close
+    (tie.spec
+    enum-told
+    enum-known-repr
+    bit-words-requires
+    enum-known-repr-2
+    bytes-words-requires
+    enum-known-repr-3
+    returns
+    returns-2
+    returns-3
+    returns-4)

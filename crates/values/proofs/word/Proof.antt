@@ -1,0 +1,26 @@
+use borrow.Author.Needs.{needs}
+use native.Mathlib.Omega.{arith}
+use mathlib.Core.Path.{_≡_, refl, sym, _∙_}
+use Prim.Native.Nat.{_≤_, _-_, _<_, _+_}
+use lib.ListN.{length, take, getD}
+use mathlib.Core.List.{List, [], _∷_, _++_}
+use lib.ListN.{List·getD-eq-default}
+use Rattle.values.proofs.word.Statement.{statement}
+use Rattle.values.proofs.word.Tie as tie
+use Rattle.values.proofs.word.Reads as reads
+use Rattle.values.proofs.word.Lts as lts
+
+mul-result : tie.Need-mul-result
+mul-result c = search needs
+
+shared-slice-read-result : tie.Need-shared-slice-read-result
+shared-slice-read-result c = search needs
+
+returns : tie.Need-returns
+returns c = search needs
+
+returns-2 : tie.Need-returns-2
+returns-2 c = sym (List·getD-eq-default (c .before .args .s .now) 0 {n = c .before .args .i} (c .if1 .left))
+
+pub word-spec : {M : Type 1} → statement M
+word-spec = tie.close (tie.spec mul-result shared-slice-read-result returns returns-2)

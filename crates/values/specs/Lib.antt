@@ -1,0 +1,5 @@
+pub mod Heads
+pub mod Left
+pub mod Laws
+pub mod Stack
+pub mod Stores
