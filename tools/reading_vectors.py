@@ -4,7 +4,7 @@
     tools/reading_vectors.py [OUT]
 
 OUT is the crate's folder (default: crates/reading_tests beside this script's folder). Written are stdin, the tickets with their answers, and
-stdout, what the program must print. A ticket is a line `NAME,LENGTH,NUMBER,LINE` and LENGTH bytes; NUMBER 0 says that reading accepts it.
+stdout, what the program must print. A ticket is a line `LENGTH,NUMBER,LINE` and LENGTH bytes; NUMBER 0 says that reading accepts it.
 
 The answers come from the reader below, written from document 01's sections Ticket and Refusal table alone; it shares nothing with the
 definitions that the code is proved against.
@@ -286,7 +286,7 @@ def main():
     for name, ticket in cases():
         n, line = read(ticket) or (0, 0)
         counts[n] = counts.get(n, 0) + 1
-        made.append(b"%s,%d,%d,%d\n%s" % (name.replace(" ", "_").replace("^", "").encode(), len(ticket), n, line, ticket))
+        made.append(b"%d,%d,%d\n%s" % (len(ticket), n, line, ticket))
     os.makedirs(folder, exist_ok=True)
     with open(os.path.join(folder, "stdin"), "wb") as f:
         f.write(b"".join(made))

@@ -52,7 +52,8 @@ passed {l} {a} {t} s h k r e =
       own-heads = ap (λ (z : List Val). map head-of z) (between-to s1 j r far le ∙ take-min m ys) ∙ heads-take m ys;
       rest = stands-from s1 j r far le;
       rest-heads = ap (λ (z : List Val). map head-of z) (between-from s1 j r far ∙ drop-min m ys) ∙ heads-drop m ys;
-      sound = g .0 }
+      sound = g .0;
+    }
 
 -- ---------------------------------------------------------------- part i
 
@@ -129,16 +130,20 @@ taken {l} {p} {t} {r} c l′ b h k e =
     let la : length (take (c .top) l ++ ws) ≡ c .top + 8 * length ps = length-append (take (c .top) l) ws ∙ omega arith in
     let w : ws ≡ values-words ps = o .whole in
     record {
-      shown = λ line. rw (b .first)
-        (refl, b .sound,
+      shown = λ line. rw (b .first) (
+        refl,
+        b .sound,
         record {
           parts = ps;
           shows = b .own-heads;
           sound = o .sound;
           counters = ap (λ (z : ℕ). at-top c (c .top + z)) m;
           stacked = ap (λ (z : List ℕ). take (c .top + 8 * length ps) z) (e ∙ sets-eq ws l (c .top) fit)
-            ∙ take-at (take (c .top) l ++ ws) (drop (c .top + length ws) l) (c .top + 8 * length ps) la
-            ∙ ap (λ (z : List ℕ). take (c .top) l ++ z) w }) }
+              ∙ take-at (take (c .top) l ++ ws) (drop (c .top + length ws) l) (c .top + 8 * length ps) la
+              ∙ ap (λ (z : List ℕ). take (c .top) l ++ z) w;
+        },
+      );
+    }
 
 -- what is found, taken
 pub record Picks (l : List ℕ) (c : State) (line : ℕ) (hs : List Head) (l′ : List ℕ) (r : Lowered) : Type 0 where

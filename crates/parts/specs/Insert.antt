@@ -98,7 +98,7 @@ module _ {l : List ℕ} {p q mid end : ℕ} {x : Val} (c : State) (a : Insertabl
       let n : c .top + (p - c .top) ≡ p = omega arith in
       let front : take p l ≡ take (c .top) l ++ values-words old = ap (λ (z : ℕ). take z l) (sym n) ∙ take-add (c .top) (p - c .top) l ∙ ap (λ (z : List ℕ). take (c .top) l ++ z) (old-stands .whole) in
       let new : seg mid end l ++ seg q mid l ≡ values-words (between l mid end ++ between l q mid) =
-          ap (λ (z : List ℕ). z ++ seg q mid l) (a .new .whole) ∙ ap (λ (z : List ℕ). values-words (between l mid end) ++ z) (b .rest .whole) ∙ sym (words-append (between l mid end) (between l q mid)) in
+      ap (λ (z : List ℕ). z ++ seg q mid l) (a .new .whole) ∙ ap (λ (z : List ℕ). values-words (between l mid end) ++ z) (b .rest .whole) ∙ sym (words-append (between l mid end) (between l q mid)) in
       ap (λ (z : List ℕ). z ++ (value-words x ++ (seg mid end l ++ seg q mid l))) front
       ∙ ap (λ (z : List ℕ). (take (c .top) l ++ values-words old) ++ (value-words x ++ z)) new
       ∙ append-assoc (take (c .top) l) (values-words old) (values-words (x ∷ (between l mid end ++ between l q mid)))
@@ -122,14 +122,18 @@ module _ {l : List ℕ} {p q mid end : ℕ} {x : Val} (c : State) (a : Insertabl
       let len = length-parts in
       let m : (p + 8 + (end - q) - c .top) / 8 ≡ length new = let e : (p + 8 + (end - q) - c .top) / 8 ≡ length parts = omega arith in e ∙ sym (length-heads parts) ∙ ap length parts-heads in
       record {
-        shown = λ line. rw (b .first)
-          (ap (λ (z : ℕ). record { ty = ty; shape = aggregate-shape n z }) m, tt,
+        shown = λ line. rw (b .first) (
+          ap (λ (z : ℕ). record { ty = ty; shape = aggregate-shape n z }) m,
+          tt,
           record {
             parts = parts;
             shows = parts-heads;
             sound = sound-append old (x ∷ (between l mid end ++ between l q mid)) (old-stands .sound) (a .sound, sound-append (between l mid end) (between l q mid) (a .new .sound) (b .rest .sound));
             counters = ap (λ (z : ℕ). at-top c z) len;
-            stacked = ap (λ (z : ℕ). take z l′) (sym len) ∙ w .words ∙ parts-words }) }
+            stacked = ap (λ (z : ℕ). take z l′) (sym len) ∙ w .words ∙ parts-words;
+          },
+        );
+      }
 
 pub put : {l : List ℕ} {c : State} {p mid end i : ℕ} {x : Val} {ty n : ℕ} {l′ : List ℕ} {r : Lowered} (line : ℕ) → Skips l (c .top) mid i p → Replaces l c p mid end x ty n l′ r
     → Puts l c line ty n (heads l (c .top) mid) (skip i (heads l (c .top) mid)) (head-of x ∷ heads l mid end) l′ r

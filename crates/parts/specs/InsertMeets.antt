@@ -35,11 +35,14 @@ module _ (w : Value) where
   here : (v : Value) (vs : Values) → SetIs (preorders (v ∷ᵛ vs)) (preorders (v ∷ᵛ vs)) new-records (suc (count vs)) (some (w ∷ᵛ vs))
   here v vs =
       let ks = parts-of v ++ preorders vs in
-      let n : suc (length ks) - suc (length ks) ≡ 0 = omega arith in
-      (root v, ks, refl,
-      ap (λ (z : List Head). new-records ++ z) (sym (drop-at (parts-of v) (preorders vs) (records (root v)) (sym (records-parts v))))
-      ∙ ap (λ (z : ℕ). take z (root v ∷ ks) ++ (new-records ++ drop (records (root v)) ks)) (sym n),
-      refl)
+      let n : suc (length ks) - suc (length ks) ≡ 0 = omega arith in (
+        root v,
+        ks,
+        refl,
+        ap (λ (z : List Head). new-records ++ z) (sym (drop-at (parts-of v) (preorders vs) (records (root v)) (sym (records-parts v))))
+            ∙ ap (λ (z : ℕ). take z (root v ∷ ks) ++ (new-records ++ drop (records (root v)) ks)) (sym n),
+        refl,
+      )
 
   behind-one : (v : Value) (vs : Values) (found : List Head) → length found ≤ length (preorders vs) → (ov : Option Values) → SetIs (preorders vs) found new-records (count vs) ov
       → SetIs (preorders (v ∷ᵛ vs)) found new-records (suc (count vs)) (elim ov [ none ↦ none | some us ↦ some (v ∷ᵛ us) ])
@@ -55,10 +58,13 @@ module _ (w : Value) where
       let n : length (root v ∷ (ps ++ hs)) - length (h ∷ ks) ≡ suc (length ps + k) = omega arith in
       let rest = new-records ++ drop (records h) ks in
       let front : take (length (root v ∷ (ps ++ hs)) - length (h ∷ ks)) (root v ∷ (ps ++ hs)) ≡ root v ∷ (ps ++ take k hs) =
-          ap (λ (z : ℕ). take z (root v ∷ (ps ++ hs))) n ∙ ap (λ (z : List Head). root v ∷ z) (take-append-add ps hs k) in
-      (h, ks, s .2,
-      ap (λ (z : List Head). root v ∷ (ps ++ z)) (s .3) ∙ ap (λ (z : List Head). root v ∷ z) (sym (append-assoc ps (take k hs) rest)) ∙ ap (λ (z : List Head). z ++ rest) (sym front),
-      ap suc (s .4))
+      ap (λ (z : ℕ). take z (root v ∷ (ps ++ hs))) n ∙ ap (λ (z : List Head). root v ∷ z) (take-append-add ps hs k) in (
+        h,
+        ks,
+        s .2,
+        ap (λ (z : List Head). root v ∷ (ps ++ z)) (s .3) ∙ ap (λ (z : List Head). root v ∷ z) (sym (append-assoc ps (take k hs) rest)) ∙ ap (λ (z : List Head). z ++ rest) (sym front),
+        ap suc (s .4),
+      )
 
   pub set-found : (i : ℕ) (vs : Values) → SetIs (preorders vs) (skip i (preorders vs)) new-records (count vs) (set-value vs i w)
   unfolding skip set-value
@@ -88,7 +94,8 @@ module _ {b : Bufs} {c : State} {o : Outcome Value} {b1 : Bufs} {x : Val} {c1 : 
         fits = left-fits k f;
         whole = stands-kept k (omega arith) (omega arith) f (stands-left l h);
         new = stands-left k f;
-        sound = e .sound }
+        sound = e .sound;
+      }
 
   module _ (i ty : ℕ) (env : At) (stack3 : List ℕ) (n : length stack3 ≡ length (b2 .stack)) where
     abbrev appended : Out
@@ -100,10 +107,11 @@ module _ {b : Bufs} {c : State} {o : Outcome Value} {b1 : Bufs} {x : Val} {c1 : 
 
     finish : (us : Values) (hs : List Head) (g : Head) (ks xs : List Head) (k : ℕ) → preorders us ≡ with-part hs g ks xs → count us ≡ k → (r : Lowered)
         → case-insert (b2 .stack) (at-top c2 (c .top)) (env .line) ty k hs (g ∷ ks) xs stack3 r → case-value b c (prepend appended (done (value ty (aggregate us)) (counters-in c2) nothing)) (with-stack b2 stack3) r
-    finish us hs g ks xs k q u (Lowered.Done z c3) m =
-        (m .0 ∙ ap (λ (a : List Head). aggregate-head ty k a) (sym q) ∙ ap (λ (a : ℕ). aggregate-head ty a (preorders us)) (sym u),
-        m .1,
-        moved-left (left-then (d .left) (e .left)) h (subst (λ (a : List Head). Moved (b2 .stack) (at-top c2 (c .top)) a stack3 c3) (sym q) (m .2)) n)
+    finish us hs g ks xs k q u (Lowered.Done z c3) m = (
+      m .0 ∙ ap (λ (a : List Head). aggregate-head ty k a) (sym q) ∙ ap (λ (a : ℕ). aggregate-head ty a (preorders us)) (sym u),
+      m .1,
+      moved-left (left-then (d .left) (e .left)) h (subst (λ (a : List Head). Moved (b2 .stack) (at-top c2 (c .top)) a stack3 c3) (sym q) (m .2)) n,
+    )
     finish us hs g ks xs k q u (Lowered.Refused a j) m = absurd m
 
     choose : (hs found xs : List Head) (k : ℕ) (ov : Option Values) → SetIs hs found xs k ov → (r : Lowered) → case-insert (b2 .stack) (at-top c2 (c .top)) (env .line) ty k hs found xs stack3 r

@@ -118,7 +118,8 @@ moved-left {b} {c} {hs} {cs} {o} {b1} {c1} {ks} {stack2} {c2} l h m e =
       sound = m .sound;
       topped = refl;
       stacked = m .stacked ∙ rw (left-kept l h);
-      long = e ∙ l .long })
+      long = e ∙ l .long;
+    })
 
 module _ {b : Bufs} {c : State} {o : Outcome Value} {b1 : Bufs} {x : Val} {c1 : State} (d : DoneValue b c o b1 x c1) (h : c .top ≤ length (b .stack)) (i : ℕ) (env : At) (stack2 : List ℕ) (e : length stack2 ≡ length (b1 .stack)) where
   stop : (r : Lowered) → case-extract (b1 .stack) (at-top c1 (c .top)) (env .line) [] stack2 r → case-value b c (refused 24 (env .line)) (with-stack b1 stack2) r
@@ -132,8 +133,10 @@ module _ {b : Bufs} {c : State} {o : Outcome Value} {b1 : Bufs} {x : Val} {c1 : 
     where
       ks : List Head
       ks = found .0
+
       tk : take (records (root w)) (parts-of w ++ ks) ≡ parts-of w
       tk = take-at (parts-of w) ks (records (root w)) (sym (records-parts w))
+
       go : (r : Lowered) → case-extract (b1 .stack) (at-top c1 (c .top)) (env .line) (root w ∷ (parts-of w ++ ks)) stack2 r → case-value b c (prepend (d .out) (done w (counters-in c1) nothing)) (with-stack b1 stack2) r
       go (Lowered.Done y c2) m = (m .0, m .1, moved-left (d .left) h (subst (λ (z : List Head). Moved (b1 .stack) (at-top c1 (c .top)) z stack2 c2) tk (m .2)) e)
       go (Lowered.Refused a l) m = absurd m

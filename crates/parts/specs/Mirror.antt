@@ -86,11 +86,11 @@ mirror-more l i j h f =
     let q = drop j l in
     let e : suc k ≡ j = omega arith in
     let split : l ≡ p ++ (x ∷ (m ++ (y ∷ q))) =
-        sym (take-append-drop i l)
-        ∙ ap (λ (z : List ℕ). p ++ z) (drop-cons l i 0 (omega arith))
-        ∙ ap (λ (z : List ℕ). p ++ (x ∷ z)) (drop-from l (suc i) k (omega arith))
-        ∙ ap (λ (z : List ℕ). p ++ (x ∷ (m ++ z))) (drop-cons l k 0 (omega arith))
-        ∙ ap (λ (z : ℕ). p ++ (x ∷ (m ++ (y ∷ drop z l)))) e in
+    sym (take-append-drop i l)
+    ∙ ap (λ (z : List ℕ). p ++ z) (drop-cons l i 0 (omega arith))
+    ∙ ap (λ (z : List ℕ). p ++ (x ∷ z)) (drop-from l (suc i) k (omega arith))
+    ∙ ap (λ (z : List ℕ). p ++ (x ∷ (m ++ z))) (drop-cons l k 0 (omega arith))
+    ∙ ap (λ (z : ℕ). p ++ (x ∷ (m ++ (y ∷ drop z l)))) e in
     let lp : length p ≡ i = length-take-le i l (omega arith) in
     let lm : length m ≡ k - suc i = length-seg l (suc i) k (omega arith) in
     let t = one-turn p m q x y i k j lp (omega arith) (omega arith) in
@@ -130,13 +130,13 @@ module _ (l : List ℕ) (a m e : ℕ) (h : a ≤ m) (k : m ≤ e) (f : e ≤ len
       let lpx : length (p ++ x) ≡ c = length-append p x ∙ omega arith in
       let lrb : c + length (reverse b) ≡ e = ap (λ (z : ℕ). c + z) (length-reverse b) ∙ omega arith in
       let one : mirrored l a e ≡ p ++ (reverse x ++ (reverse b ++ q)) =
-          ap (λ (z : List ℕ). mirrored z a e) (parts-three ∙ ap (λ (z : List ℕ). p ++ z) (sym (append-assoc b x q)))
-          ∙ mirrored-at p (b ++ x) q a e lp lbx
-          ∙ ap (λ (z : List ℕ). p ++ (z ++ q)) (reverse-append b x)
-          ∙ ap (λ (z : List ℕ). p ++ z) (append-assoc (reverse x) (reverse b) q) in
+      ap (λ (z : List ℕ). mirrored z a e) (parts-three ∙ ap (λ (z : List ℕ). p ++ z) (sym (append-assoc b x q)))
+      ∙ mirrored-at p (b ++ x) q a e lp lbx
+      ∙ ap (λ (z : List ℕ). p ++ (z ++ q)) (reverse-append b x)
+      ∙ ap (λ (z : List ℕ). p ++ z) (append-assoc (reverse x) (reverse b) q) in
       let two : mirrored (mirrored l a e) a c ≡ p ++ (x ++ (reverse b ++ q)) =
-          ap (λ (z : List ℕ). mirrored z a c) one ∙ mirrored-at p (reverse x) (reverse b ++ q) a c lp lrx
-          ∙ ap (λ (z : List ℕ). p ++ (z ++ (reverse b ++ q))) (reverse-reverse x) in
+      ap (λ (z : List ℕ). mirrored z a c) one ∙ mirrored-at p (reverse x) (reverse b ++ q) a c lp lrx
+      ∙ ap (λ (z : List ℕ). p ++ (z ++ (reverse b ++ q))) (reverse-reverse x) in
       ap (λ (z : List ℕ). mirrored z c e) (two ∙ sym (append-assoc p x (reverse b ++ q)))
       ∙ mirrored-at (p ++ x) (reverse b) q c e lpx lrb
       ∙ ap (λ (z : List ℕ). (p ++ x) ++ (z ++ q)) (reverse-reverse b)
@@ -200,8 +200,8 @@ module _ (l ws l1 l2 l3 : List ℕ) (p q m e : ℕ) (hw : length ws ≡ 8) (hp :
       let w8 : p + length ws ≡ p + 8 = omega arith in
       let back : drop (p + length ws) l2 ≡ new ++ rest = ap (λ (z : ℕ). drop z l2) w8 ∙ ap (λ (z : List ℕ). drop (p + 8) z) now-moved ∙ drop-at (take (p + 8) l1) (new ++ rest) (p + 8) l8 in
       let all : l3 ≡ (take p l ++ (ws ++ new)) ++ rest =
-          e3 ∙ pasted l2 ws p (omega arith) ∙ ap (λ (z : List ℕ). z ++ (ws ++ drop (p + length ws) l2)) front ∙ ap (λ (z : List ℕ). take p l ++ (ws ++ z)) back
-          ∙ ap (λ (z : List ℕ). take p l ++ z) (sym (append-assoc ws new rest)) ∙ sym (append-assoc (take p l) (ws ++ new) rest) in
+      e3 ∙ pasted l2 ws p (omega arith) ∙ ap (λ (z : List ℕ). z ++ (ws ++ drop (p + length ws) l2)) front ∙ ap (λ (z : List ℕ). take p l ++ (ws ++ z)) back
+      ∙ ap (λ (z : List ℕ). take p l ++ z) (sym (append-assoc ws new rest)) ∙ sym (append-assoc (take p l) (ws ++ new) rest) in
       let lp : length (take p l) ≡ p = length-take-le p l (omega arith) in
       let len : length (take p l ++ (ws ++ new)) ≡ p + 8 + (e - q) = length-append (take p l) (ws ++ new) ∙ (let a = length-append ws new in omega arith) in
       ap (λ (z : List ℕ). take (p + 8 + (e - q)) z) all ∙ take-at (take p l ++ (ws ++ new)) rest (p + 8 + (e - q)) len

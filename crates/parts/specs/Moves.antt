@@ -18,5 +18,5 @@ moved-more l₀ l a b n j ha hj down e =
     let hd : j < length (drop a l₀) = simp length-drop (omega arith) in
     let lt : length (take j (drop a l₀)) ≡ j = length-take-le j (drop a l₀) (omega arith) in
     let read : getD l (a + j) 0 ≡ getD (drop a l₀) j 0 =
-        ap (λ (z : List ℕ). getD z (a + j) 0) e ∙ kept-behind l₀ (take j (drop a l₀)) b (a + j) (omega arith) ∙ sym (getD-drop a l₀ j 0) in
+    ap (λ (z : List ℕ). getD z (a + j) 0) e ∙ kept-behind l₀ (take j (drop a l₀)) b (a + j) (omega arith) ∙ sym (getD-drop a l₀ j 0) in
     rw read (stored-more l₀ l (drop a l₀) b j hd e)

@@ -122,7 +122,8 @@ going-on {l} {end} {c} {d} g h k =
     let none : drop (d .index) (own (d .value)) ≡ [] = drop-of-length-le (own (d .value)) n in
     record {
       ready = record { within = a8; fits = r .fits; stands = stands-from s 1 (d .at + 8) (omega arith) a8; sound = gs .0; counted = refl };
-      same = ap operands-of (sym hs) ∙ ap (λ (z : List ValueOperand). z ++ operands-of (heads l (d .at) end)) (sym none) ∙ g .same }
+      same = ap operands-of (sym hs) ∙ ap (λ (z : List ValueOperand). z ++ operands-of (heads l (d .at) end)) (sym none) ∙ g .same;
+    }
 
 pub arrived : {l : List ℕ} {end : ℕ} {c d : Cursor} → Going l end c d → d .index < d .count → Forwards l end c d
 arrived g h = record { ready = g .ready; same = g .same; last = λ k. absurd (omega arith) }
@@ -140,8 +141,11 @@ next-more {l} {end} {c} {d} x f h e =
     let n : d .index < length (own (d .value)) = omega arith in
     let cut : drop (d .index) (own (d .value)) ≡ operand-of x ∷ drop (d .index + 1) (own (d .value)) = rw (add-one, e) (drop-cons (own (d .value)) (d .index) (byte-operand (immediate 0)) n) in
     record {
-      shown = (sym (f .same) ∙ ap (λ (z : List ValueOperand). z ++ operands-of (heads l (d .at) end)) cut,
-        record { within = r .within; fits = r .fits; stands = r .stands; sound = r .sound; counted = r .counted }) }
+      shown = (
+        sym (f .same) ∙ ap (λ (z : List ValueOperand). z ++ operands-of (heads l (d .at) end)) cut,
+        record { within = r .within; fits = r .fits; stands = r .stands; sound = r .sound; counted = r .counted },
+      );
+    }
 
 pub next-over : {l : List ℕ} {end : ℕ} {c d : Cursor} → Forwards l end c d → d .count ≤ d .index → Nexts l end c Next.Over
 unfolding left-operands

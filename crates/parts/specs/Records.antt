@@ -62,10 +62,16 @@ next-word l a b t e h k =
 pub between-cons : (l : List ℕ) (a t : ℕ) → a + 8 ≤ t → t ≤ length l → between l a t ≡ value-at l a ∷ between l (a + 8) t
 unfolding values-in value-at
 between-cons l a t h k =
-    rw
-    (next-word l a (a + 1) t (omega arith) (omega arith) k, next-word l (a + 1) (a + 2) t (omega arith) (omega arith) k, next-word l (a + 2) (a + 3) t (omega arith) (omega arith) k,
-    next-word l (a + 3) (a + 4) t (omega arith) (omega arith) k, next-word l (a + 4) (a + 5) t (omega arith) (omega arith) k, next-word l (a + 5) (a + 6) t (omega arith) (omega arith) k,
-    next-word l (a + 6) (a + 7) t (omega arith) (omega arith) k, next-word l (a + 7) (a + 8) t (omega arith) (omega arith) k)
+    rw (
+      next-word l a (a + 1) t (omega arith) (omega arith) k,
+      next-word l (a + 1) (a + 2) t (omega arith) (omega arith) k,
+      next-word l (a + 2) (a + 3) t (omega arith) (omega arith) k,
+      next-word l (a + 3) (a + 4) t (omega arith) (omega arith) k,
+      next-word l (a + 4) (a + 5) t (omega arith) (omega arith) k,
+      next-word l (a + 5) (a + 6) t (omega arith) (omega arith) k,
+      next-word l (a + 6) (a + 7) t (omega arith) (omega arith) k,
+      next-word l (a + 7) (a + 8) t (omega arith) (omega arith) k,
+    )
 
 pub between-none : (l : List ℕ) (a t : ℕ) → t ≤ a → between l a t ≡ []
 unfolding values-in

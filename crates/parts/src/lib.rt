@@ -59,7 +59,11 @@ fn behind(stack: &[u64], at: usize, end: usize) -> usize
     let v = values::value_at(stack, at);
     let m = records_of(v);
     let n = (end - at) / 8;
-    if m < n as u64 { at + 8 * (m as usize + 1) } else { at + 8 * n }
+    if m < n as u64 {
+        at + 8 * (m as usize + 1)
+    } else {
+        at + 8 * n
+    }
 }
 
 // Where part i of the values from `top` to `end` stands, or `end` where there is none.
@@ -174,7 +178,16 @@ fn put_part(stack: &mut [u64], p: usize, q: usize, mid: usize, end: usize, x: Va
     values::store8(stack, p, ws);
 }
 
-fn insert_at(stack: &mut [u64], s: State, p: usize, mid: usize, end: usize, x: Value, ty: u64, n: u64) -> Lowered
+fn insert_at(
+    stack: &mut [u64],
+    s: State,
+    p: usize,
+    mid: usize,
+    end: usize,
+    x: Value,
+    ty: u64,
+    n: u64,
+) -> Lowered
     requires { ⌜ Insertable (now stack) (s .top) mid end x × (s .top ≤ p) × (p < mid) × Stands (now stack) p mid ⌝ }
     ensures { λ res. ⌜ Replaces (now (stack .entry)) s p mid end x ty n (now (stack .exit)) res ⌝ }
 {
@@ -190,7 +203,17 @@ fn insert_at(stack: &mut [u64], s: State, p: usize, mid: usize, end: usize, x: V
     Lowered::Done(y, values::at_top(s, to))
 }
 
-fn insert_part(stack: &mut [u64], s: State, mid: usize, end: usize, i: u64, x: Value, ty: u64, n: u64, line: u64) -> Lowered
+fn insert_part(
+    stack: &mut [u64],
+    s: State,
+    mid: usize,
+    end: usize,
+    i: u64,
+    x: Value,
+    ty: u64,
+    n: u64,
+    line: u64,
+) -> Lowered
     requires { ⌜ Insertable (now stack) (s .top) mid end x ⌝ }
     ensures { λ res. ⌜ Puts (now (stack .entry)) s line ty n (heads (now (stack .entry)) (s .top) mid) (skip i (heads (now (stack .entry)) (s .top) mid)) (head-of x ∷ heads (now (stack .entry)) mid end) (now (stack .exit)) res ⌝ }
 {
@@ -204,7 +227,17 @@ fn insert_part(stack: &mut [u64], s: State, mid: usize, end: usize, i: u64, x: V
 }
 
 // The aggregate v with x for its part i. The parts of v stand from the top to `mid`, those of x from there to `end`.
-pub fn insert(stack: &mut [u64], s: State, mid: usize, end: usize, v: Value, i: u64, x: Value, ty: u64, line: u64) -> Lowered
+pub fn insert(
+    stack: &mut [u64],
+    s: State,
+    mid: usize,
+    end: usize,
+    v: Value,
+    i: u64,
+    x: Value,
+    ty: u64,
+    line: u64,
+) -> Lowered
     requires { ⌜ Insertable (now stack) (s .top) mid end x ⌝ }
     ensures { λ res. ⌜ Inserts (now (stack .entry)) s mid end v i x ty line (now (stack .exit)) res ⌝ }
 {
@@ -292,12 +325,15 @@ pub fn next_operand(stack: &[u64], end: usize, c: Cursor) -> Next
     let count = d.count;
     if index < count {
         let x = operand_at(value, index);
-        Next::More(x, Cursor {
-            value,
-            index: index + 1,
-            count,
-            at: d.at,
-        })
+        Next::More(
+            x,
+            Cursor {
+                value,
+                index: index + 1,
+                count,
+                at: d.at,
+            },
+        )
     } else {
         Next::Over
     }

@@ -42,10 +42,11 @@ few-done {k} {w} f e = subst (λ (z : Outcome Value). few-case k w z) e (f .show
 few-cons-in : (k w k′ w′ : ℕ) (v : Value) (o : Out) (h : hir.At) → (length (o .storages) ≤ k) × (length (o .instructions) ≤ k) × (length (parts-of v) + 1 ≤ w)
     → (y : Outcome Values) → few-list-case k′ w′ y → few-list-case (k + k′) (w + w′) (prepend o (bind-to (cons-to v) h y))
 few-cons-in k w k′ w′ v o h a (refused n l) b = tt
-few-cons-in k w k′ w′ v o h a (done vs c p) b =
-    (omega (arith, a .0, b .0, length-append (o .storages) (p .storages ++ []), length-append (p .storages) []),
-    omega (arith, a .1, b .1, length-append (o .instructions) (p .instructions ++ []), length-append (p .instructions) []),
-    omega (arith, a .2, b .2, length-append (parts-of v) (preorders vs)))
+few-cons-in k w k′ w′ v o h a (done vs c p) b = (
+  omega (arith, a .0, b .0, length-append (o .storages) (p .storages ++ []), length-append (p .storages) []),
+  omega (arith, a .1, b .1, length-append (o .instructions) (p .instructions ++ []), length-append (p .instructions) []),
+  omega (arith, a .2, b .2, length-append (parts-of v) (preorders vs)),
+)
 
 few-cons : (k w k′ w′ : ℕ) (rest : Lower Values) (h : hir.At) → ((c : monad.Counters) → FewList k′ w′ (rest h c))
     → (x : Outcome Value) → few-case k w x → few-list-case (k + k′) (w + w′) (bind-to (λ v h c. bind-to (cons-to v) h (rest h c)) h x)

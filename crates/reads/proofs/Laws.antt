@@ -67,17 +67,23 @@ pub bool-meets : {code store code′ store′ : List ℕ} {s : State} {c1 c2 : C
 unfolding read-bool-byte _>>=_ _>>_ values-words marked
 bool-meets {code} {store} {code′} {store′} {s} {c1} {c2} T storage ty o new h n stack a b =
     rw (a .is h)
-    (record { shown = (refl, tt, record {
-      appends = allocated-emitted a b h;
-      numbers = rw (b .storage, b .temporary);
-      narrows = refl;
-      parts = [];
-      shows = refl;
-      sound = tt;
-      topped = omega arith;
-      stacked = sym (append-nil (take (s .top) stack));
-      long = refl;
-    }) })
+    (record {
+      shown = (
+        refl,
+        tt,
+        record {
+          appends = allocated-emitted a b h;
+          numbers = rw (b .storage, b .temporary);
+          narrows = refl;
+          parts = [];
+          shows = refl;
+          sound = tt;
+          topped = omega arith;
+          stacked = sym (append-nil (take (s .top) stack));
+          long = refl;
+        },
+      );
+    })
 
 -- ---------------------------------------------------------------- aggregates
 
@@ -124,7 +130,8 @@ room-rest {T} {ts} {us} {o} {b} {s} ty e g r d f l =
     record {
       room = room-after (sum (size-of T) us + 1) (omega (arith, w .0)) (omega (arith, w .1)) (r .room) (y .appends);
       top = omega (arith, r .top, w .2, y .topped, y .long);
-      reach = omega (arith, r .reach) }
+      reach = omega (arith, r .reach);
+    }
 
 module _ (rows nodes lists : List ℕ) (c : Counts) (R : TypesRight (tables-of rows nodes lists c)) (ty : ℕ) (s : State) where
   -- only a Bool appends

@@ -143,7 +143,7 @@ module _ (rows nodes lists : List ℕ) (c : Counts) where
   -- reading at a depth that is not 0
   pub read-here : (d s ty o : ℕ) (h : hir.At) (e : monad.Counters) (m : Reading) → (d ≡ 0 → ⊥) → reading-of (type-kind-at rows c ty) ≡ m
       → read-bytes-as-type (tables-of rows nodes lists c) d s ty o h e
-        ≡ reading-read (tables-of rows nodes lists c) lists (λ t p. read-bytes-as-type (tables-of rows nodes lists c) (d - 1) s t p) s ty o m h e
+      ≡ reading-read (tables-of rows nodes lists c) lists (λ t p. read-bytes-as-type (tables-of rows nodes lists c) (d - 1) s t p) s ty o m h e
   unfolding read-bytes-as-type
   read-here zero s ty o h e m g k = absurd (g refl)
   read-here (suc d) s ty o h e m g k =
@@ -181,7 +181,7 @@ module _ (rows nodes lists : List ℕ) (c : Counts) where
   -- parts, the first of them and the rest
   pub fields-here : (rd : ℕ → ℕ → Lower Value) (o : ℕ) (p : Parts) (i n : ℕ) (h : hir.At) (e : monad.Counters) → (n ≡ 0 → ⊥)
       → read-fields (tables-of rows nodes lists c) rd o (part-types lists p i n) h e
-        ≡ bind-to (λ v h e. bind-to (cons-to v) h (read-fields (tables-of rows nodes lists c) rd (o + size-at rows c (part-type lists p i)) (part-types lists p (i + 1) (n - 1)) h e)) h (rd (part-type lists p i) o h e)
+      ≡ bind-to (λ v h e. bind-to (cons-to v) h (read-fields (tables-of rows nodes lists c) rd (o + size-at rows c (part-type lists p i)) (part-types lists p (i + 1) (n - 1)) h e)) h (rd (part-type lists p i) o h e)
   unfolding read-fields _>>=_
   fields-here rd o p i n h e g = rw (parts-more lists p i n g, size-here rows nodes lists c (part-type lists p i))
 

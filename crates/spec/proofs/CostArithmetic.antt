@@ -12,10 +12,31 @@ use Rattle.spec.specs.Lir.{Storage, ByteStorage, ByteOperand, immediate,
 use Rattle.spec.specs.Operands.{value-bytes}
 use Rattle.spec.specs.Allocation.{width-of, Location, integer-width, allocate-carry}
 use Rattle.spec.specs.Operators.{
-  UnaryForm, negating, inverting, counting, unary-form, BinaryForm, adding, subtracting, bytewise, shifting, whole, binary-form,
+  UnaryForm,
+  negating,
+  inverting,
+  counting,
+  unary-form,
+  BinaryForm,
+  adding,
+  subtracting,
+  bytewise,
+  shifting,
+  whole,
+  binary-form,
 }
 use Rattle.spec.specs.Arithmetic.{
-  zip2, zip3, carry-in, adds, subtracts, negates, byte-rotate, shifts, unary-instructions, lower-integer-unary, binary-instructions,
+  zip2,
+  zip3,
+  carry-in,
+  adds,
+  subtracts,
+  negates,
+  byte-rotate,
+  shifts,
+  unary-instructions,
+  lower-integer-unary,
+  binary-instructions,
   lower-integer-binary,
 }
 use Rattle.spec.specs.Demands.{kind-bytes, writes}
@@ -37,18 +58,18 @@ module _ (T : Tables) {L : List Storage} {P : Type 0} where
   unary-does negating ty t ds input g =
       within
       (allocating _ _ _ then λ c.
-        emitting (size-of T ty) (negates c ds input) (λ p. le-trans (zip2-length _ 0 ds input) (le-of-eq (g (p .0) .count)))
-        (λ p. zip2-each _ (λ i d b q. carried (subtract d (immediate 0) b (carry-in c i)) (length ds) i refl refl q (p .1)) 0 ds input (g (p .0) .each)))
+      emitting (size-of T ty) (negates c ds input) (λ p. le-trans (zip2-length _ 0 ds input) (le-of-eq (g (p .0) .count)))
+      (λ p. zip2-each _ (λ i d b q. carried (subtract d (immediate 0) b (carry-in c i)) (length ds) i refl refl q (p .1)) 0 ds input (g (p .0) .each)))
       (λ p. omega arith)
   unary-does inverting ty t ds input g =
       within
       (emitting (size-of T ty) (zip2 (λ i d b. not-byte d b) 0 ds input) (λ p. le-trans (zip2-length _ 0 ds input) (le-of-eq (g p .count)))
-        (λ p. zip2-each _ (λ i d b q. writes-byte refl q) 0 ds input (g p .each)))
+      (λ p. zip2-each _ (λ i d b q. writes-byte refl q) 0 ds input (g p .each)))
       (λ p. omega arith)
   unary-does (counting op) ty t ds input g =
       within
       (known _ _ then λ w.
-        emitting-one _ (λ p. writes-bytes refl (g (p .0) .each)))
+      emitting-one _ (λ p. writes-bytes refl (g (p .0) .each)))
       (λ p. omega arith)
 
   binary-does : (form : BinaryForm) (ty : ℕ) (t : Location) (ds : List ByteStorage) (l r : List ByteOperand) → (P → Destined T L ty t ds)
@@ -57,31 +78,31 @@ module _ (T : Tables) {L : List Storage} {P : Type 0} where
   binary-does adding ty t ds l r g =
       within
       (allocating _ _ _ then λ c.
-        emitting (size-of T ty) (adds c ds l r) (λ p. le-trans (zip3-length _ 0 ds l r) (le-of-eq (g (p .0) .count)))
-        (λ p. zip3-each _ (λ i d x y q. carried (add d x y (carry-in c i)) (length ds) i refl refl q (p .1)) 0 ds l r (g (p .0) .each)))
+      emitting (size-of T ty) (adds c ds l r) (λ p. le-trans (zip3-length _ 0 ds l r) (le-of-eq (g (p .0) .count)))
+      (λ p. zip3-each _ (λ i d x y q. carried (add d x y (carry-in c i)) (length ds) i refl refl q (p .1)) 0 ds l r (g (p .0) .each)))
       (λ p. omega arith)
   binary-does subtracting ty t ds l r g =
       within
       (allocating _ _ _ then λ c.
-        emitting (size-of T ty) (subtracts c ds l r) (λ p. le-trans (zip3-length _ 0 ds l r) (le-of-eq (g (p .0) .count)))
-        (λ p. zip3-each _ (λ i d x y q. carried (subtract d x y (carry-in c i)) (length ds) i refl refl q (p .1)) 0 ds l r (g (p .0) .each)))
+      emitting (size-of T ty) (subtracts c ds l r) (λ p. le-trans (zip3-length _ 0 ds l r) (le-of-eq (g (p .0) .count)))
+      (λ p. zip3-each _ (λ i d x y q. carried (subtract d x y (carry-in c i)) (length ds) i refl refl q (p .1)) 0 ds l r (g (p .0) .each)))
       (λ p. omega arith)
   binary-does (bytewise op) ty t ds l r g =
       within
       (emitting (size-of T ty) (zip3 (λ i d x y. byte-binary op d x y) 0 ds l r) (λ p. le-trans (zip3-length _ 0 ds l r) (le-of-eq (g p .count)))
-        (λ p. zip3-each _ (λ i d x y q. writes-byte refl q) 0 ds l r (g p .each)))
+      (λ p. zip3-each _ (λ i d x y q. writes-byte refl q) 0 ds l r (g p .each)))
       (λ p. omega arith)
   binary-does (shifting op) ty t ds l r g =
       within
       (known _ _ then λ w.
-        emitting (size-of T ty + 1 + turning (width-of ((typeAt T ty) .word) ((typeAt T ty) .args))) (shifts op w ds l r)
-        (λ p. let c = turned w ds l r (g (p .0) .each) (byte-rotate w ds l r) refl op .count in rw (p .1) (omega (arith, g (p .0) .count)))
-        (λ p. turned w ds l r (g (p .0) .each) (byte-rotate w ds l r) refl op .each))
+      emitting (size-of T ty + 1 + turning (width-of ((typeAt T ty) .word) ((typeAt T ty) .args))) (shifts op w ds l r)
+      (λ p. let c = turned w ds l r (g (p .0) .each) (byte-rotate w ds l r) refl op .count in rw (p .1) (omega (arith, g (p .0) .count)))
+      (λ p. turned w ds l r (g (p .0) .each) (byte-rotate w ds l r) refl op .each))
       (λ p. omega arith)
   binary-does (whole op) ty t ds l r g =
       within
       (known _ _ then λ w.
-        emitting-one _ (λ p. writes-bytes refl (g (p .0) .each)))
+      emitting-one _ (λ p. writes-bytes refl (g (p .0) .each)))
       (λ p. omega arith)
 
 module _ (T : Tables) (R : TypesRight T) {L : List Storage} {P : Type 0} where
@@ -91,10 +112,10 @@ module _ (T : Tables) (R : TypesRight T) {L : List Storage} {P : Type 0} where
   lower-integer-unary-does op v ty =
       within
       (known _ _ then λ input.
-        destined T ty λ t ds.
-        unary-does T (unary-form op) ty t ds input (λ p. p .1) next λ _.
-        mask-does T ty t (λ p. p .0 .1 .of-type) (λ p h. p .0 .1 .own) next λ _.
-        read-temporary T R ty t (λ p. p .0 .0 .1 .of-type))
+      destined T ty λ t ds.
+      unary-does T (unary-form op) ty t ds input (λ p. p .1) next λ _.
+      mask-does T ty t (λ p. p .0 .1 .of-type) (λ p h. p .0 .1 .own) next λ _.
+      read-temporary T R ty t (λ p. p .0 .0 .1 .of-type))
       (λ p. omega (arith, spare T R ty, bools-of-le T ty))
 
   pub lower-integer-binary-does : (op : IntegerBinaryOp) (l r : Value) (ty : ℕ)
@@ -103,9 +124,9 @@ module _ (T : Tables) (R : TypesRight T) {L : List Storage} {P : Type 0} where
   lower-integer-binary-does op l r ty =
       within
       (known _ _ then λ left.
-        known _ _ then λ right.
-        destined T ty λ t ds.
-        binary-does T (binary-form op) ty t ds left right (λ p. p .1) next λ _.
-        mask-does T ty t (λ p. p .0 .1 .of-type) (λ p h. p .0 .1 .own) next λ _.
-        read-temporary T R ty t (λ p. p .0 .0 .1 .of-type))
+      known _ _ then λ right.
+      destined T ty λ t ds.
+      binary-does T (binary-form op) ty t ds left right (λ p. p .1) next λ _.
+      mask-does T ty t (λ p. p .0 .1 .of-type) (λ p h. p .0 .1 .own) next λ _.
+      read-temporary T R ty t (λ p. p .0 .0 .1 .of-type))
       (λ p. omega (arith, spare T R ty, bools-of-le T ty))

@@ -49,13 +49,14 @@ ticket-budget S n = record { instructions = 2 * S + 2 * n; storages = S + 2 * n;
 -- a root's nodes are among the ticket's node lines, each once
 pub root-within : (T : Tables) → Readable T → Fits (tree-budget T (root T)) (ticket-budget (line-sum (size-of T) (T .nodes)) (length (T .nodes)))
 root-within T R =
-    omega
-    (arith,
+    omega (
+      arith,
       R .once (λ ty. 2 * size-of T ty + 2),
       R .once (λ ty. size-of T ty + 2),
       line-sum-plus (λ ty. 2 * size-of T ty) (T .nodes),
       line-sum-double (size-of T) (T .nodes),
-      line-sum-plus (size-of T) (T .nodes))
+      line-sum-plus (size-of T) (T .nodes),
+    )
 
 -- S by the sizes that are stored is S by `type_size`
 stored-sum : (T : Tables) → Readable T → line-sum (size-of T) (T .nodes) ≡ total-size T
@@ -111,4 +112,5 @@ cost-bound readable round-trip ticket buffer s T read accepts =
       new = W .advanced .ids;
       inside = W .inside;
       instruction-count = refl;
-      storage-count = refl }
+      storage-count = refl;
+    }

@@ -12,7 +12,20 @@ use Rattle.spec.specs.Hir.{CompareOp, ConversionOp}
 use Rattle.spec.specs.Ticket.{Tables}
 use Rattle.spec.specs.Readable.{TypesRight}
 use Rattle.spec.specs.Lir.{
-  Storage, ByteStorage, ByteOperand, immediate, BitOperand, Purpose, Value, value, unit, bit-value, bytes-value, aggregate, copy-byte, condition,
+  Storage,
+  ByteStorage,
+  ByteOperand,
+  immediate,
+  BitOperand,
+  Purpose,
+  Value,
+  value,
+  unit,
+  bit-value,
+  bytes-value,
+  aggregate,
+  copy-byte,
+  condition,
   integer-to-boolean,
 }
 use Rattle.spec.specs.Operands.{value-bytes, value-bit, resize}
@@ -20,7 +33,16 @@ use Rattle.spec.specs.Allocation.{type-size, integer-width, odd-bits, al
 use Rattle.spec.specs.Operators.{ConversionForm, resizing, extending-sign, reinterpreting, from-boolean, to-boolean, of-float, conversion-form}
 use Rattle.spec.specs.Arithmetic.{zip2}
 use Rattle.spec.specs.Conversions.{
-  bit-to-bytes, lower-compare, not-zero, value-as-bit, normalized-bytes, resized, sign-extended, boolean-to-integer, integer-to-bool, reinterpreted,
+  bit-to-bytes,
+  lower-compare,
+  not-zero,
+  value-as-bit,
+  normalized-bytes,
+  resized,
+  sign-extended,
+  boolean-to-integer,
+  integer-to-bool,
+  reinterpreted,
   lower-conversion,
 }
 use Rattle.spec.specs.Demands.{kind-bytes, writes}
@@ -90,11 +112,11 @@ module _ (T : Tables) (R : TypesRight T) {L : List Storage} where
       rw e
       (within
       (temporary-does T ty then λ t.
-        emitting (size-of T ty) (zip2 (λ i d b. copy-byte d b) 0 (bytes-at T t) bs)
-        (λ p. le-trans (zip2-length _ 0 (bytes-at T t) bs) (le-of-eq (temporary-count T (p .1))))
-        (λ p. zip2-each _ (λ i d b q. writes-byte refl q) 0 (bytes-at T t) bs (odd-bytes T R (p .1) odd)) next λ _.
-        mask-does T ty t (λ p. p .0 .1 .of-type) (λ p h. odd-bytes T R (p .0 .1) h) next λ _.
-        read-temporary T R ty t (λ p. p .0 .0 .1 .of-type))
+      emitting (size-of T ty) (zip2 (λ i d b. copy-byte d b) 0 (bytes-at T t) bs)
+      (λ p. le-trans (zip2-length _ 0 (bytes-at T t) bs) (le-of-eq (temporary-count T (p .1))))
+      (λ p. zip2-each _ (λ i d b q. writes-byte refl q) 0 (bytes-at T t) bs (odd-bytes T R (p .1) odd)) next λ _.
+      mask-does T ty t (λ p. p .0 .1 .of-type) (λ p h. odd-bytes T R (p .0 .1) h) next λ _.
+      read-temporary T R ty t (λ p. p .0 .0 .1 .of-type))
       (λ p. omega (arith, spare T R ty, bools-of-le T ty)))
     where
       odd : 1 ≤ odd-bits T ty
@@ -105,11 +127,11 @@ module _ (T : Tables) (R : TypesRight T) {L : List Storage} where
   sign-extended-does v ty =
       within
       (known _ _ then λ width.
-        known _ _ then λ source.
-        destined T ty λ t ds.
-        emitting-one _ (λ p. writes-bytes refl (p .1 .each)) next λ _.
-        mask-does T ty t (λ p. p .0 .1 .of-type) (λ p h. p .0 .1 .own) next λ _.
-        read-temporary T R ty t (λ p. p .0 .0 .1 .of-type))
+      known _ _ then λ source.
+      destined T ty λ t ds.
+      emitting-one _ (λ p. writes-bytes refl (p .1 .each)) next λ _.
+      mask-does T ty t (λ p. p .0 .1 .of-type) (λ p h. p .0 .1 .own) next λ _.
+      read-temporary T R ty t (λ p. p .0 .0 .1 .of-type))
       (λ p. omega (arith, spare T R ty, bools-of-le T ty))
 
   boolean-to-integer-does : {P : Type 0} (v : Value) (ty : ℕ) → Does L P (boolean-to-integer T v ty) (budget (size-of T ty)) (Small (weight-of T ty))
@@ -117,10 +139,10 @@ module _ (T : Tables) (R : TypesRight T) {L : List Storage} where
   boolean-to-integer-does v ty =
       within
       (known _ _ then λ source.
-        destined T ty λ t ds.
-        emitting (size-of T ty) (bit-to-bytes ds source) (λ p. le-trans (bit-to-bytes-length ds source) (le-of-eq (p .1 .count)))
-        (λ p. bit-to-bytes-each ds source (p .1 .each)) next λ _.
-        read-temporary T R ty t (λ p. p .0 .1 .of-type))
+      destined T ty λ t ds.
+      emitting (size-of T ty) (bit-to-bytes ds source) (λ p. le-trans (bit-to-bytes-length ds source) (le-of-eq (p .1 .count)))
+      (λ p. bit-to-bytes-each ds source (p .1 .each)) next λ _.
+      read-temporary T R ty t (λ p. p .0 .1 .of-type))
       (λ p. omega (arith, bools-of-le T ty))
 
   integer-to-bool-does : {P : Type 0} (v : Value) → Does L P (integer-to-bool T v) (reading 1) (Small 1)

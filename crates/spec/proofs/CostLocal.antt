@@ -22,7 +22,11 @@ use Rattle.spec.proofs.CostArithmetic.{lower-integer-unary-does, lower-
 use Rattle.spec.proofs.CostConversions.{lower-compare-does, lower-conversion-does, value-as-bit-does}
 use Rattle.spec.proofs.CostPlaces.{lower-read-does}
 use Rattle.spec.proofs.CostSelect.{
-  lower-select-does, lower-address-of-does, lower-static-address-does, lower-function-address-does, lower-pointer-offset-does,
+  lower-select-does,
+  lower-address-of-does,
+  lower-static-address-does,
+  lower-function-address-does,
+  lower-pointer-offset-does,
 }
 
 -- ---------------------------------------------------------------- parts of aggregates

@@ -124,14 +124,16 @@ advanced-append {c} {d} {e} {o} {p} a b =
     record {
       storage = simp length-append (omega arith);
       temporary = simp length-append (omega arith);
-      ids = numbered-append (c .storage) (d .storage) (o .storages) (p .storages) (a .storage) (a .ids) (b .ids) }
+      ids = numbered-append (c .storage) (d .storage) (o .storages) (p .storages) (a .storage) (a .ids) (b .ids);
+    }
 
 fits-append : (a b : Cost) (o p : Out) → Fits (cost-of o) a → Fits (cost-of p) b → Fits (cost-of (_⊕_ o p)) (a ⊞ b)
 fits-append a b o p f g =
     record {
       instructions = simp length-append (omega arith);
       storages = simp length-append (omega arith);
-      bytes = simp bytes-append (omega arith) }
+      bytes = simp bytes-append (omega arith);
+    }
 
 effect-append : {L : List Storage} {Q : Type 0} (a b : Cost) (o p : Out)
     → Fits (cost-of o) a → writes-inside L (o .instructions) ≡ true → Effect L b p Q → Effect L (a ⊞ b) (_⊕_ o p) Q
@@ -141,11 +143,12 @@ effect-append {L} a b o p f w e =
 module _ {A B : Type 0} (L : List Storage) (P : Type 0) (a b : Cost) (Q : A → Type 0) (R : B → Type 0) where
   after : (c d : Counters) (o : Out) (y : A) (x : Outcome B) → Ok L P a Q c (done y d o) → Ok L (P × Q y) b R d x → Ok L P (a ⊞ b) R c (prepend o x)
   after c d o y (refused n l) h k = tt
-  after c d o y (done v e p) h k =
-      (advanced-append (h .0) (k .0),
-        λ given here.
-            let f = h .1 given (each-left (o .storages) (p .storages) here) in
-            effect-append a b o p (f .cost) (f .inside) (k .1 (given, f .result) (each-right (o .storages) (p .storages) here)))
+  after c d o y (done v e p) h k = (
+    advanced-append (h .0) (k .0),
+    λ given here.
+        let f = h .1 given (each-left (o .storages) (p .storages) here) in
+        effect-append a b o p (f .cost) (f .inside) (k .1 (given, f .result) (each-right (o .storages) (p .storages) here)),
+  )
 
   bound : (f : A → Lower B) (h : At) (c : Counters) (x : Outcome A)
       → Ok L P a Q c x → ((y : A) → Does L (P × Q y) (f y) b R) → Ok L P (a ⊞ b) R c (bind-to f h x)
@@ -173,11 +176,12 @@ fits-trans f g = omega arith
 weaker : {A : Type 0} (L : List Storage) (O P : Type 0) (a b : Cost) (Q R : A → Type 0) → (P → O) → (P → Fits a b) → ((y : A) → P → Q y → R y)
     → (c : Counters) (x : Outcome A) → Ok L O a Q c x → Ok L P b R c x
 weaker L O P a b Q R e f g c (refused n l) k = tt
-weaker L O P a b Q R e f g c (done y d o) k =
-    (k .0,
-      λ given here.
-          let w = k .1 (e given) here in
-          record { cost = fits-trans (w .cost) (f given); inside = w .inside; result = g y given (w .result) })
+weaker L O P a b Q R e f g c (done y d o) k = (
+  k .0,
+  λ given here.
+      let w = k .1 (e given) here in
+      record { cost = fits-trans (w .cost) (f given); inside = w .inside; result = g y given (w .result) },
+)
 
 module _ {A : Type 0} {L : List Storage} {P : Type 0} {m : Lower A} {a : Cost} {Q : A → Type 0} where
   -- within a larger budget, and with a weaker answer

@@ -7,7 +7,22 @@ use native.Mathlib.Omega.{arith}
 use native.Mathlib.Nat.{le-refl}
 use Rattle.spec.specs.Limits.{type-depth-limit}
 use Rattle.spec.specs.Ticket.{
-  TypeWord, tUnit, tBool, tBits, tFloat, tPointer, tArray, tStruct, tTuple, tOpaque, Tables, typeAt, arg, sum, type-size-by, weight-by,
+  TypeWord,
+  tUnit,
+  tBool,
+  tBits,
+  tFloat,
+  tPointer,
+  tArray,
+  tStruct,
+  tTuple,
+  tOpaque,
+  Tables,
+  typeAt,
+  arg,
+  sum,
+  type-size-by,
+  weight-by,
 }
 use Rattle.spec.specs.Readable.{TypesRight}
 use Rattle.spec.specs.Lir.{Storage, Value, value, Repr, unit, bit-value, bytes-value, aggregate, Values, no-values, _∷ᵛ_}
@@ -133,7 +148,7 @@ module _ (T : Tables) (R : TypesRight T) (L : List Storage) where
   word-do rd d P s ty o tArray xs =
       within
       (elements-do L (rd (arg xs 0)) (size-of T (arg xs 0)) (weight-of T (arg xs 0)) (type-size T (arg xs 0)) (λ P o. d P (arg xs 0) o) P _ o
-        then λ vs. answers (λ p. omega arith))
+      then λ vs. answers (λ p. omega arith))
       (λ p. omega arith)
   word-do rd d P s ty o tStruct xs = within (fields-do rd d P xs o then λ vs. answers (λ p. omega arith)) (λ p. omega arith)
   word-do rd d P s ty o tTuple xs = within (fields-do rd d P xs o then λ vs. answers (λ p. omega arith)) (λ p. omega arith)
@@ -146,7 +161,7 @@ module _ (T : Tables) (R : TypesRight T) (L : List Storage) where
   bytes-do P (suc d) s ty o =
       giving
       (word-do (λ t p. read-bytes-as-type T d s t p) (λ P t p. within (bytes-do P d s t p) (λ g. omega (arith, bools-of-le T t)))
-        P s ty o ((typeAt T ty) .word) ((typeAt T ty) .args))
+      P s ty o ((typeAt T ty) .word) ((typeAt T ty) .args))
       (λ g. rw (R .sized ty) (omega arith)) (λ v g q. rw (R .weighed ty) q)
 
   location-do : (P : Type 0) (b : Bool) (s ty o : ℕ)

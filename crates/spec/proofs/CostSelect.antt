@@ -11,8 +11,21 @@ use Rattle.spec.specs.Hir.{Place}
 use Rattle.spec.specs.Ticket.{Tables, storageAt}
 use Rattle.spec.specs.Readable.{TypesRight}
 use Rattle.spec.specs.Lir.{
-  Storage, ByteStorage, BitOperand, ValueOperand, bit-operand, byte-operand, ValueStorage, bit-storage, byte-storage, InstructionKind, Value, add,
-  address-of, function-address, flatten-value-operands,
+  Storage,
+  ByteStorage,
+  BitOperand,
+  ValueOperand,
+  bit-operand,
+  byte-operand,
+  ValueStorage,
+  bit-storage,
+  byte-storage,
+  InstructionKind,
+  Value,
+  add,
+  address-of,
+  function-address,
+  flatten-value-operands,
 }
 use Rattle.spec.specs.Lir as lir
 use Rattle.spec.specs.Monad.{_>>=_, _>>_, emit}
@@ -22,8 +35,17 @@ use Rattle.spec.specs.Places.{is-one}
 use Rattle.spec.specs.ReadBytes.{read-location}
 use Rattle.spec.specs.Arithmetic.{carry-in, adds, first-storage}
 use Rattle.spec.specs.Select.{
-  select-piece, select-pieces, select-to-location, lower-select, require-addressable, second-storage, materialize-location-address, lower-address-of,
-  lower-static-address, lower-function-address, lower-pointer-offset,
+  select-piece,
+  select-pieces,
+  select-to-location,
+  lower-select,
+  require-addressable,
+  second-storage,
+  materialize-location-address,
+  lower-address-of,
+  lower-static-address,
+  lower-function-address,
+  lower-pointer-offset,
 }
 use Rattle.spec.specs.Demands.{kind-bytes, to-byte, writes}
 use Rattle.spec.proofs.CostLogic.{Cost, free, Does, Each, none-left, _also_, each-first, each-rest, Kind, Any, _then_, _next_, within, giving}
@@ -62,8 +84,8 @@ module _ {L : List Storage} (c : BitOperand) where
   pieces-does (d ∷ ds) (t ∷ ts) (f ∷ fs) g =
       within
       (known _ _ then λ i.
-        emitting-one _ (λ p. piece-inside d t f i (each-first (g (p .0))) (p .1)) next λ _.
-        pieces-does ds ts fs (λ p. each-rest (g (p .0 .0))))
+      emitting-one _ (λ p. piece-inside d t f i (each-first (g (p .0))) (p .1)) next λ _.
+      pieces-does ds ts fs (λ p. each-rest (g (p .0 .0))))
       (λ p. omega arith)
 
 -- what a Bool and a pointer are
@@ -115,7 +137,7 @@ module _ (T : Tables) (R : TypesRight T) {L : List Storage} where
   to-location-does l c t f ty g =
       within
       (required _ _ next λ _.
-        pieces-does c (location-value-storages T l) (flatten-value-operands t) (flatten-value-operands f) (λ p. temporary-pieces (g (p .0)) .each))
+      pieces-does c (location-value-storages T l) (flatten-value-operands t) (flatten-value-operands f) (λ p. temporary-pieces (g (p .0)) .each))
       (λ p. omega (arith, temporary-pieces (g p) .count))
 
   pub lower-select-does : {P : Type 0} (c : BitOperand) (t f : Value) (ty : ℕ)
@@ -124,8 +146,8 @@ module _ (T : Tables) (R : TypesRight T) {L : List Storage} where
   lower-select-does c t f ty =
       within
       (temporary-does T ty then λ l.
-        to-location-does l c t f ty (λ p. p .1) next λ _.
-        read-temporary T R ty l (λ p. p .0 .1 .of-type))
+      to-location-does l c t f ty (λ p. p .1) next λ _.
+      read-temporary T R ty l (λ p. p .0 .1 .of-type))
       (λ p. omega (arith, bools-of-le T ty))
 
   -- ------------------------------------------------------------ addresses
@@ -148,11 +170,11 @@ module _ (T : Tables) (R : TypesRight T) {L : List Storage} where
   pointing k e =
       giving
       (destined T 1 λ t ds.
-        emitting-one (k ds)
-        (λ p.
-            let two : length ds ≡ 2 = p .1 .count ∙ pointer-size T R in
-            writes-two (e ds) (first-byte ds (omega arith) (p .1 .each)) (second-byte ds (omega arith) (p .1 .each))) next λ _.
-        read-temporary T R 1 t (λ p. p .0 .1 .of-type))
+      emitting-one (k ds)
+      (λ p.
+      let two : length ds ≡ 2 = p .1 .count ∙ pointer-size T R in
+      writes-two (e ds) (first-byte ds (omega arith) (p .1 .each)) (second-byte ds (omega arith) (p .1 .each))) next λ _.
+      read-temporary T R 1 t (λ p. p .0 .1 .of-type))
       (λ p. omega (arith, pointer-size T R, pointer-bools T R)) (λ v p q. omega (arith, pointer-weight T R))
 
   materialize-does : {P : Type 0} (s : ℕ) (is-bit : Bool) (o : ℕ) → Does L P (materialize-location-address T s is-bit o) addressing (Small 1)
@@ -160,8 +182,8 @@ module _ (T : Tables) (R : TypesRight T) {L : List Storage} where
   materialize-does s is-bit o =
       within
       (required _ _ next λ _.
-        addressable-does (is-one ((storageAt T s) .owner)) s refl next λ _.
-        pointing (λ ds. address-of (first-storage ds) (second-storage T ds) s o) (λ ds. refl))
+      addressable-does (is-one ((storageAt T s) .owner)) s refl next λ _.
+      pointing (λ ds. address-of (first-storage ds) (second-storage T ds) s o) (λ ds. refl))
       (λ p. omega arith)
 
   pub lower-address-of-does : {P : Type 0} (p : Place) → Does L P (lower-address-of T p) addressing (Small 1)
@@ -182,13 +204,13 @@ module _ (T : Tables) (R : TypesRight T) {L : List Storage} where
   lower-pointer-offset-does b o =
       giving
       (known _ _ then λ base.
-        known _ _ then λ offset.
-        required _ _ next λ _.
-        destined T 1 λ t ds.
-        allocating _ _ _ then λ c.
-        emitting (size-of T 1) (adds c ds (take 2 base) (resize 2 offset))
-        (λ p. le-trans (zip3-length _ 0 ds (take 2 base) (resize 2 offset)) (le-of-eq (p .0 .1 .count)))
-        (λ p. zip3-each _ (λ i d x y q. carried (add d x y (carry-in c i)) (length ds) i refl refl q (p .1)) 0
-            ds (take 2 base) (resize 2 offset) (p .0 .1 .each)) next λ _.
-        read-temporary T R 1 t (λ p. p .0 .0 .1 .of-type))
+      known _ _ then λ offset.
+      required _ _ next λ _.
+      destined T 1 λ t ds.
+      allocating _ _ _ then λ c.
+      emitting (size-of T 1) (adds c ds (take 2 base) (resize 2 offset))
+      (λ p. le-trans (zip3-length _ 0 ds (take 2 base) (resize 2 offset)) (le-of-eq (p .0 .1 .count)))
+      (λ p. zip3-each _ (λ i d x y q. carried (add d x y (carry-in c i)) (length ds) i refl refl q (p .1)) 0
+      ds (take 2 base) (resize 2 offset) (p .0 .1 .each)) next λ _.
+      read-temporary T R 1 t (λ p. p .0 .0 .1 .of-type))
       (λ p. omega (arith, pointer-size T R, pointer-bools T R)) (λ v p q. omega (arith, pointer-weight T R))

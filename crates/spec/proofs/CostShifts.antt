@@ -9,7 +9,20 @@ use lib.Dec.{eqb, leb, T, leb→le}
 use borrow.Author.Tests.{eqb-true}
 use lib.ListN.{length}
 use Rattle.spec.specs.Ticket.{
-  TypeWord, tUnit, tBool, tBits, tFloat, tPointer, tArray, tStruct, tTuple, tOpaque, Tables, typeAt, arg, type-size-by,
+  TypeWord,
+  tUnit,
+  tBool,
+  tBits,
+  tFloat,
+  tPointer,
+  tArray,
+  tStruct,
+  tTuple,
+  tOpaque,
+  Tables,
+  typeAt,
+  arg,
+  type-size-by,
 }
 use Rattle.spec.specs.Readable.{TypesRight}
 use Rattle.spec.specs.Lir.{Storage, ByteStorage, ByteOperand, InstructionKind, RotateDirection, ShiftOp, shift-bytes}

@@ -69,13 +69,16 @@ module _ {L : List Storage} {P : Type 0} where
   unfolding all-bytes
   emitting n ks f g =
       record {
-        run = λ h c.
-            (no-storage c [] (made-all h ks),
-              λ given here.
-                  record {
-                    cost = record { instructions = let e = f given in simp (length-made h ks) e; storages = zero-le; bytes = zero-le };
-                    inside = made-inside L h ks (g given);
-                    result = tt }) }
+        run = λ h c. (
+          no-storage c [] (made-all h ks),
+          λ given here.
+              record {
+                cost = record { instructions = let e = f given in simp (length-made h ks) e; storages = zero-le; bytes = zero-le };
+                inside = made-inside L h ks (g given);
+                result = tt;
+              },
+        );
+      }
 
   pub emitting-one : (k : InstructionKind) → (P → Inside L k) → Does L P (emit k) (emitted 1) Any
   emitting-one k f = emitting 1 (k ∷ []) (λ p. le-refl 1) (λ p. f p also none-left)
@@ -89,6 +92,8 @@ module _ {L : List Storage} {P : Type 0} where
   unfolding allocate-storage numbered writes-inside all-bytes
   allocating k p r =
       record {
-        run = λ h c.
-            (record { storage = refl; temporary = refl; ids = and-both (eq-eqb (c .storage) (c .storage) refl) refl },
-              λ given here. record { cost = omega arith; inside = refl; result = each-first here }) }
+        run = λ h c. (
+          record { storage = refl; temporary = refl; ids = and-both (eq-eqb (c .storage) (c .storage) refl) refl },
+          λ given here. record { cost = omega arith; inside = refl; result = each-first here },
+        );
+      }

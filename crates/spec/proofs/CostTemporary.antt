@@ -54,12 +54,12 @@ module _ (T : Tables) {L : List Storage} where
   temporary-does zero =
       within
       (allocating _ _ _ then λ s.
-        answers (λ p. record { of-type = refl; bool = λ e. refl; bit = λ e. p .1; bytes = λ e. absurd (false≢true (sym e)) }))
+      answers (λ p. record { of-type = refl; bool = λ e. refl; bit = λ e. p .1; bytes = λ e. absurd (false≢true (sym e)) }))
       (λ p. omega arith)
   temporary-does (suc ty) =
       within
       (sized-does (type-size T (suc ty)) then λ s.
-        answers (λ p. record { of-type = refl; bool = λ e. absurd (false≢true e); bit = λ e. absurd (false≢true e); bytes = λ e. p .1 }))
+      answers (λ p. record { of-type = refl; bool = λ e. absurd (false≢true e); bit = λ e. absurd (false≢true e); bytes = λ e. p .1 }))
       (λ p. omega arith)
 
   location-bytes-does : {P : Type 0} (b : Bool) (s o ty : ℕ) → Does L P (location-bytes T (record { storage = s; offset = o; ty = ty; is-bit = b })) free
@@ -77,7 +77,8 @@ module _ (T : Tables) {L : List Storage} where
         of-type = t .of-type;
         count = ap length e ∙ temporary-count t;
         each = rw e (t .bytes b);
-        own = t .bytes b }
+        own = t .bytes b;
+      }
 
   -- a temporary and its bytes, for what follows
   pub destined : {B : Type 0} {P : Type 0} {f : Location → List ByteStorage → Lower B} {k : Cost} {R : B → Type 0} (ty : ℕ)
@@ -86,8 +87,8 @@ module _ (T : Tables) {L : List Storage} where
   destined ty g =
       within
       (temporary-does ty then λ l.
-        location-bytes-does (l .is-bit) (l .storage) (l .offset) (l .ty) then λ ds.
-        under (λ p. (p .0 .0, destinations (p .0 .1) (p .1 .0) (p .1 .1))) (g l ds))
+      location-bytes-does (l .is-bit) (l .storage) (l .offset) (l .ty) then λ ds.
+      under (λ p. (p .0 .0, destinations (p .0 .1) (p .1 .0) (p .1 .1))) (g l ds))
       (λ p. omega arith)
 
   -- a type with odd bits is not Bool, so that its temporary has bytes

@@ -3,8 +3,31 @@ use Prim.Native.Nat.{ℕ, _+_, _*_, _≤_, zero-le}
 use mathlib.Core.List.{List}
 use native.Mathlib.Omega.{arith}
 use Rattle.spec.specs.Hir.{
-  At, Expr, boolean, integer, float32, float64, null-pointer, static-address, function-address, read, integer-unary, integer-binary, float-unary,
-  float-binary, compare, convert, select, address-of, pointer-offset, aggregate, extract-element, insert-element, Exprs, no-exprs, _∷ᵉ_,
+  At,
+  Expr,
+  boolean,
+  integer,
+  float32,
+  float64,
+  null-pointer,
+  static-address,
+  function-address,
+  read,
+  integer-unary,
+  integer-binary,
+  float-unary,
+  float-binary,
+  compare,
+  convert,
+  select,
+  address-of,
+  pointer-offset,
+  aggregate,
+  extract-element,
+  insert-element,
+  Exprs,
+  no-exprs,
+  _∷ᵉ_,
 }
 use Rattle.spec.specs.Ticket.{Tables}
 use Rattle.spec.specs.Readable.{TypesRight, node-sum, node-sums}
@@ -24,14 +47,16 @@ tree-budget T e =
     record {
       instructions = node-sum (λ ty. 2 * size-of T ty + 2) e;
       storages = node-sum (λ ty. size-of T ty + 2) e;
-      bytes = node-sum (λ ty. size-of T ty + 2) e }
+      bytes = node-sum (λ ty. size-of T ty + 2) e;
+    }
 
 abbrev pub trees-budget : Tables → Exprs → Cost
 trees-budget T es =
     record {
       instructions = node-sums (λ ty. 2 * size-of T ty + 2) es;
       storages = node-sums (λ ty. size-of T ty + 2) es;
-      bytes = node-sums (λ ty. size-of T ty + 2) es }
+      bytes = node-sums (λ ty. size-of T ty + 2) es;
+    }
 
 module _ (T : Tables) (R : TypesRight T) {L : List Storage} where
   -- a node's own step behind its operands, whose values are among the q
@@ -72,9 +97,9 @@ module _ (T : Tables) (R : TypesRight T) {L : List Storage} where
     expression-does (select h t f c) =
         giving
         (expression-does t then λ v.
-          expression-does f then λ w.
-          as-bit-does h (expression-does c) then λ b.
-          owned h (lower-select-does T R b v w (h .ty)))
+        expression-does f then λ w.
+        as-bit-does h (expression-does c) then λ b.
+        owned h (lower-select-does T R b v w (h .ty)))
         (λ p. omega arith) (λ x p q. omega arith)
     expression-does (address-of h p) = leaf h (Own.address-of p)
     expression-does (pointer-offset h b o) =

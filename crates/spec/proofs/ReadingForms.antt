@@ -6,7 +6,20 @@ use mathlib.Core.Option.{Option, none, some}
 use mathlib.Core.Path.{_≡_, refl, ap}
 use Rattle.spec.specs.Text.{bytes, same, number}
 use Rattle.spec.specs.Forms.{
-  Field, between, float-width, type-part, type, storage, place, node, Rule, find, Arg, rest-args, args-of, values,
+  Field,
+  between,
+  float-width,
+  type-part,
+  type,
+  storage,
+  place,
+  node,
+  Rule,
+  find,
+  Arg,
+  rest-args,
+  args-of,
+  values,
 }
 use Rattle.spec.specs.Readable.{All}
 use Rattle.spec.proofs.ReadingTests.{none≢some}

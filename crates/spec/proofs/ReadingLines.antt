@@ -5,14 +5,76 @@ use mathlib.Core.Option.{Option, none, some}
 use mathlib.Core.Path.{_≡_, refl}
 use Rattle.spec.specs.Text.{split, comma}
 use Rattle.spec.specs.Ticket.{
-  TypeWord, tUnit, tBool, tBits, tFloat, tPointer, tArray, tStruct, tTuple, tOpaque, PlaceWord, NodeWord, nBool, nInt, nF32, nF64, nNull,
-  nStaticAddress, nFunction, nRead, nUnary, nBinary, nFunary, nFbinary, nCompare, nConvert, nSelect, nAddress, nOffset, nExtract,
+  TypeWord,
+  tUnit,
+  tBool,
+  tBits,
+  tFloat,
+  tPointer,
+  tArray,
+  tStruct,
+  tTuple,
+  tOpaque,
+  PlaceWord,
+  NodeWord,
+  nBool,
+  nInt,
+  nF32,
+  nF64,
+  nNull,
+  nStaticAddress,
+  nFunction,
+  nRead,
+  nUnary,
+  nBinary,
+  nFunary,
+  nFbinary,
+  nCompare,
+  nConvert,
+  nSelect,
+  nAddress,
+  nOffset,
+  nExtract,
   nInsert,
 }
 use Rattle.spec.specs.Forms.{
-  Field, between, type, Rule, type-rules, place-rules, node-rules, kind-rules, function-fields, storage-fields, placed-fields, find, Arg,
-  Head, f-line, s-line, v-line, g-line, t-line, p-line, n-line, Line, args-of, type-form, place-form, node-form, Kind, kF, kT, kS, kV,
-  kG, kP, kN, form-of, lineOf, values,
+  Field,
+  between,
+  type,
+  Rule,
+  type-rules,
+  place-rules,
+  node-rules,
+  kind-rules,
+  function-fields,
+  storage-fields,
+  placed-fields,
+  find,
+  Arg,
+  Head,
+  f-line,
+  s-line,
+  v-line,
+  g-line,
+  t-line,
+  p-line,
+  n-line,
+  Line,
+  args-of,
+  type-form,
+  place-form,
+  node-form,
+  Kind,
+  kF,
+  kT,
+  kS,
+  kV,
+  kG,
+  kP,
+  kN,
+  form-of,
+  lineOf,
+  values,
 }
 use Rattle.spec.specs.Readable.{All, type-parts, nodes-of-node}
 use Rattle.spec.proofs.ReadingTests.{none≢some}
@@ -65,17 +127,34 @@ TypeRule r = (xa : List Arg) → Args (r .fields) (r .rest) xa → TypeFormed (r
 
 type-rules-formed : All TypeRule type-rules
 unfolding All TypeRule type-parts
-type-rules-formed =
-    (λ xa h. filled (λ ya. TypeFormed tUnit ya) (record { parts = refl; width = tt }) h,
-    (λ xa h. filled (λ ya. TypeFormed tBool ya) (record { parts = refl; width = tt }) h,
-    (λ xa h. record { parts = filled (λ ya. type-parts tBits (values ya) ≡ part-values ya) (λ x. refl) h; width = h },
-    (λ xa h. filled (λ ya. TypeFormed tFloat ya) (λ x. record { parts = refl; width = tt }) h,
-    (λ xa h. filled (λ ya. TypeFormed tPointer ya) (record { parts = refl; width = tt }) h,
-    (λ xa h. filled (λ ya. TypeFormed tArray ya) (λ x y. record { parts = refl; width = tt }) h,
-    (λ xa h. record { parts = all-parts h; width = tt },
-    (λ xa h. record { parts = all-parts h; width = tt },
-    (λ xa h. filled (λ ya. TypeFormed tOpaque ya) (λ x. record { parts = refl; width = tt }) h,
-    tt)))))))))
+type-rules-formed = (
+  λ xa h. filled (λ ya. TypeFormed tUnit ya) (record { parts = refl; width = tt }) h,
+  (
+    λ xa h. filled (λ ya. TypeFormed tBool ya) (record { parts = refl; width = tt }) h,
+    (
+      λ xa h. record { parts = filled (λ ya. type-parts tBits (values ya) ≡ part-values ya) (λ x. refl) h; width = h },
+      (
+        λ xa h. filled (λ ya. TypeFormed tFloat ya) (λ x. record { parts = refl; width = tt }) h,
+        (
+          λ xa h. filled (λ ya. TypeFormed tPointer ya) (record { parts = refl; width = tt }) h,
+          (
+            λ xa h. filled (λ ya. TypeFormed tArray ya) (λ x y. record { parts = refl; width = tt }) h,
+            (
+              λ xa h. record { parts = all-parts h; width = tt },
+              (
+                λ xa h. record { parts = all-parts h; width = tt },
+                (
+                  λ xa h. filled (λ ya. TypeFormed tOpaque ya) (λ x. record { parts = refl; width = tt }) h,
+                  tt,
+                ),
+              ),
+            ),
+          ),
+        ),
+      ),
+    ),
+  ),
+)
 
 NodeRule : Rule NodeWord → Type 0
 NodeRule r = (xa : List Arg) → Args (r .fields) (r .rest) xa → nodes-of-node (r .make) (values xa) ≡ node-values xa
@@ -85,28 +164,67 @@ Refers w xa = nodes-of-node w (values xa) ≡ node-values xa
 
 node-rules-formed : All NodeRule node-rules
 unfolding All NodeRule nodes-of-node
-node-rules-formed =
-    (λ xa. filled (Refers nBool) (λ x. refl),
-    (λ xa. filled (Refers nInt) (λ x. refl),
-    (λ xa. filled (Refers nF32) (λ x. refl),
-    (λ xa. filled (Refers nF64) (λ x. refl),
-    (λ xa. filled (Refers nNull) refl,
-    (λ xa. filled (Refers nStaticAddress) (λ x y. refl),
-    (λ xa. filled (Refers nFunction) (λ x. refl),
-    (λ xa. filled (Refers nRead) (λ x. refl),
-    (λ xa. filled (Refers nUnary) (λ x y. refl),
-    (λ xa. filled (Refers nBinary) (λ x y z. refl),
-    (λ xa. filled (Refers nFunary) (λ x. refl),
-    (λ xa. filled (Refers nFbinary) (λ x y. refl),
-    (λ xa. filled (Refers nCompare) (λ x y z. refl),
-    (λ xa. filled (Refers nConvert) (λ x y. refl),
-    (λ xa. filled (Refers nSelect) (λ x y z. refl),
-    (λ xa. filled (Refers nAddress) (λ x. refl),
-    (λ xa. filled (Refers nOffset) (λ x y. refl),
-    (λ xa. all-nodes,
-    (λ xa. filled (Refers nExtract) (λ x y. refl),
-    (λ xa. filled (Refers nInsert) (λ x y z. refl),
-    tt))))))))))))))))))))
+node-rules-formed = (
+  λ xa. filled (Refers nBool) (λ x. refl),
+  (
+    λ xa. filled (Refers nInt) (λ x. refl),
+    (
+      λ xa. filled (Refers nF32) (λ x. refl),
+      (
+        λ xa. filled (Refers nF64) (λ x. refl),
+        (
+          λ xa. filled (Refers nNull) refl,
+          (
+            λ xa. filled (Refers nStaticAddress) (λ x y. refl),
+            (
+              λ xa. filled (Refers nFunction) (λ x. refl),
+              (
+                λ xa. filled (Refers nRead) (λ x. refl),
+                (
+                  λ xa. filled (Refers nUnary) (λ x y. refl),
+                  (
+                    λ xa. filled (Refers nBinary) (λ x y z. refl),
+                    (
+                      λ xa. filled (Refers nFunary) (λ x. refl),
+                      (
+                        λ xa. filled (Refers nFbinary) (λ x y. refl),
+                        (
+                          λ xa. filled (Refers nCompare) (λ x y z. refl),
+                          (
+                            λ xa. filled (Refers nConvert) (λ x y. refl),
+                            (
+                              λ xa. filled (Refers nSelect) (λ x y z. refl),
+                              (
+                                λ xa. filled (Refers nAddress) (λ x. refl),
+                                (
+                                  λ xa. filled (Refers nOffset) (λ x y. refl),
+                                  (
+                                    λ xa. all-nodes,
+                                    (
+                                      λ xa. filled (Refers nExtract) (λ x y. refl),
+                                      (
+                                        λ xa. filled (Refers nInsert) (λ x y z. refl),
+                                        tt,
+                                      ),
+                                    ),
+                                  ),
+                                ),
+                              ),
+                            ),
+                          ),
+                        ),
+                      ),
+                    ),
+                  ),
+                ),
+              ),
+            ),
+          ),
+        ),
+      ),
+    ),
+  ),
+)
 
 -- ---------------------------------------------------------------- from the text
 

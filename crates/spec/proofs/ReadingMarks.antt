@@ -35,7 +35,7 @@ marked (a ∷ xa) U e b = by (a .class) (a .value) e b (λ U₁. marked xa U₁)
   where
     by : (c : Field) (x : ℕ) → once (record { class = c; value = x } ∷ xa) U ≡ true → All-below (length (U .nodes)) (if-node c x (node-values xa))
         → ((U₁ : Used) → once xa U₁ ≡ true → All-below (length (U₁ .nodes)) (node-values xa)
-          → Marked (node-values xa) (U₁ .nodes) ((mark xa U₁) .nodes))
+        → Marked (node-values xa) (U₁ .nodes) ((mark xa U₁) .nodes))
         → Marked (if-node c x (node-values xa)) (U .nodes) ((mark (record { class = c; value = x } ∷ xa) U) .nodes)
     by (between least greatest) x e b rest = rest U e b
     by float-width x e b rest = rest U e b

@@ -11,7 +11,18 @@ use lib.ListN.{length, length-append}
 use Rattle.spec.specs.Limits.{greatest-16, all-regions}
 use Rattle.spec.specs.Ticket.{Tables, PlacedLine, arg}
 use Rattle.spec.specs.Forms.{
-  Arg, Head, f-line, s-line, v-line, g-line, t-line, p-line, n-line, storage-fields, placed-fields, values,
+  Arg,
+  Head,
+  f-line,
+  s-line,
+  v-line,
+  g-line,
+  t-line,
+  p-line,
+  n-line,
+  storage-fields,
+  placed-fields,
+  values,
 }
 use Rattle.spec.specs.Read.{Reading, refusal-of, add-line}
 use Rattle.spec.specs.Readable.{All, StorageRight, PlacedRight}

@@ -112,48 +112,48 @@ module _ (ns : List NodeLine) (us us₁ : List Bool) (rs : List ℕ) (P : Pool n
 module _
     (ns : List NodeLine) (us us₁ : List Bool) (n : NodeLine) (P : Pool ns us) (m : Marked (refs n) us us₁) (new : NodeRight ns (length ns) n)
   where
-  kept : (k : ℕ) (u : NodeLine) → k ≤ length ns → NodeRight ns k u → NodeRight (ns ++ (n ∷ [])) k u
-  kept k u h r =
-      record {
-        refs-earlier = r .refs-earlier;
-        refs-less-deep =
-            All-both (refs u) (λ i p q. rw (List·getD-append ns (n ∷ []) noNode i p) q)
-            (below-all k (λ i. i < length ns) (refs u) (λ i p. omega arith) (r .refs-earlier)) (r .refs-less-deep);
-        depth-least = r .depth-least;
-        depth-most = r .depth-most;
-      }
+    kept : (k : ℕ) (u : NodeLine) → k ≤ length ns → NodeRight ns k u → NodeRight (ns ++ (n ∷ [])) k u
+    kept k u h r =
+        record {
+          refs-earlier = r .refs-earlier;
+          refs-less-deep =
+              All-both (refs u) (λ i p q. rw (List·getD-append ns (n ∷ []) noNode i p) q)
+              (below-all k (λ i. i < length ns) (refs u) (λ i p. omega arith) (r .refs-earlier)) (r .refs-less-deep);
+          depth-least = r .depth-least;
+          depth-most = r .depth-most;
+        }
 
-  pub pool-append : Pool (ns ++ (n ∷ [])) (us₁ ++ (false ∷ []))
-  pool-append =
-      record {
-        marks = simp length-append (omega (arith, m .same-length, P .marks));
-        right = λ k h. right-at k h (decLt k (length ns));
-        still-open = λ f d.
-            let len : length us₁ ≡ length ns = m .same-length ∙ P .marks in
-            let a = open-append (tree f d (ns ++ (n ∷ []))) us₁ in
-            let c = open-same (tree f d (ns ++ (n ∷ []))) (tree f d ns) us₁ (λ i p. same-tree f ns n (P .right) d i (omega arith)) in
-            let l = m .less (tree f d ns) in
+    pub pool-append : Pool (ns ++ (n ∷ [])) (us₁ ++ (false ∷ []))
+    pool-append =
+        record {
+          marks = simp length-append (omega (arith, m .same-length, P .marks));
+          right = λ k h. right-at k h (decLt k (length ns));
+          still-open = λ f d.
+              let len : length us₁ ≡ length ns = m .same-length ∙ P .marks in
+              let a = open-append (tree f d (ns ++ (n ∷ []))) us₁ in
+              let c = open-same (tree f d (ns ++ (n ∷ []))) (tree f d ns) us₁ (λ i p. same-tree f ns n (P .right) d i (omega arith)) in
+              let l = m .less (tree f d ns) in
+              let t = new-tree f ns n (P .right) d (new .refs-earlier) in
+              let at-end = ap (tree f d (ns ++ (n ∷ []))) len in
+              let o = line-sum-append f ns n in
+              let held = P .still-open f d in
+              omega arith;
+          each = λ f d k h. each-at f d k h (decLt k (length ns));
+        }
+      where
+        last : (k : ℕ) → k < length (ns ++ (n ∷ [])) → ¬ (k < length ns) → length ns ≡ k
+        last k h q = omega (arith, length-append ns (n ∷ []))
+
+        right-at : (k : ℕ) → k < length (ns ++ (n ∷ [])) → Dec (k < length ns) → NodeRight (ns ++ (n ∷ [])) k (node-at (ns ++ (n ∷ [])) k)
+        right-at k h (yes p) = rw (List·getD-append ns (n ∷ []) noNode k p) (kept k (node-at ns k) (omega arith) (P .right k p))
+        right-at k h (no q) = rw (← last k h q) (rw (getD-append-seam ns n [] noNode) (kept (length ns) n (omega arith) new))
+
+        each-at : (f : ℕ → ℕ) (d k : ℕ) → k < length (ns ++ (n ∷ [])) → Dec (k < length ns) → tree f d (ns ++ (n ∷ [])) k ≤ line-sum f (ns ++ (n ∷ []))
+        each-at f d k h (yes p) =
+            let s = same-tree f ns n (P .right) d k p in let e = P .each f d k p in let o = line-sum-append f ns n in omega arith
+        each-at f d k h (no q) =
             let t = new-tree f ns n (P .right) d (new .refs-earlier) in
-            let at-end = ap (tree f d (ns ++ (n ∷ []))) len in
-            let o = line-sum-append f ns n in
+            let l = m .less (tree f d ns) in
             let held = P .still-open f d in
-            omega arith;
-        each = λ f d k h. each-at f d k h (decLt k (length ns));
-      }
-    where
-      last : (k : ℕ) → k < length (ns ++ (n ∷ [])) → ¬ (k < length ns) → length ns ≡ k
-      last k h q = omega (arith, length-append ns (n ∷ []))
-
-      right-at : (k : ℕ) → k < length (ns ++ (n ∷ [])) → Dec (k < length ns) → NodeRight (ns ++ (n ∷ [])) k (node-at (ns ++ (n ∷ [])) k)
-      right-at k h (yes p) = rw (List·getD-append ns (n ∷ []) noNode k p) (kept k (node-at ns k) (omega arith) (P .right k p))
-      right-at k h (no q) = rw (← last k h q) (rw (getD-append-seam ns n [] noNode) (kept (length ns) n (omega arith) new))
-
-      each-at : (f : ℕ → ℕ) (d k : ℕ) → k < length (ns ++ (n ∷ [])) → Dec (k < length ns) → tree f d (ns ++ (n ∷ [])) k ≤ line-sum f (ns ++ (n ∷ []))
-      each-at f d k h (yes p) =
-          let s = same-tree f ns n (P .right) d k p in let e = P .each f d k p in let o = line-sum-append f ns n in omega arith
-      each-at f d k h (no q) =
-          let t = new-tree f ns n (P .right) d (new .refs-earlier) in
-          let l = m .less (tree f d ns) in
-          let held = P .still-open f d in
-          let o = line-sum-append f ns n in
-          rw (← last k h q) (omega arith)
+            let o = line-sum-append f ns n in
+            rw (← last k h q) (omega arith)

@@ -79,7 +79,7 @@ more-types : (ts : List TypeLine) (t : TypeLine) (ns : List NodeLine) (s w : ℕ
 more-types ts t ns s w c =
     let ts′ : List TypeLine = ts ++ (t ∷ []) in
     let e : All (λ n. at ts (n .type) ≡ at ts′ (n .type)) ns =
-        All-map ns (λ n h. sym (List·getD-append ts (t ∷ []) noType (n .type) h)) (c .node-types) in
+    All-map ns (λ n h. sym (List·getD-append ts (t ∷ []) noType (n .type) h)) (c .node-types) in
     record {
       two = λ h. simp length-append (let z = c .two h in omega arith);
       node-types = All-map ns (λ n (h : n .type < length ts). simp length-append (omega arith)) (c .node-types);
@@ -92,7 +92,7 @@ more-types ts t ns s w c =
 more-nodes : (R : Reading) (k : ℕ) (w : NodeWord) (xa : List Arg) → NodeFormed w xa → refusal-of R (record { head = n-line w; args = xa }) ≡ none
     → Summed (R .tables .types) (R .tables .nodes) (R .sizes) (R .weights)
     → Summed (R .tables .types) ((add-line (R .tables) k (n-line w) xa) .nodes)
-      (R .sizes + size-at (R .tables .types) (arg (values xa) 0)) (R .weights + weight-at (R .tables .types) (arg (values xa) 0))
+    (R .sizes + size-at (R .tables .types) (arg (values xa) 0)) (R .weights + weight-at (R .tables .types) (arg (values xa) 0))
 unfolding refusal-of add-line All
 more-nodes R k w xa (node-formed {xa = ya} ty q) e c =
     let l : Line = record { head = n-line w; args = record { class = type; value = ty } ∷ ya } in

@@ -10,8 +10,25 @@ use lib.Dec.{ltb, leb, eqb}
 use lib.ListN.{length}
 use Rattle.spec.specs.Ticket.{Tables, arg}
 use Rattle.spec.specs.Forms.{
-  Field, between, float-width, type-part, type, storage, place, node,
-  Arg, Head, f-line, s-line, v-line, g-line, t-line, p-line, n-line, Line, values,
+  Field,
+  between,
+  float-width,
+  type-part,
+  type,
+  storage,
+  place,
+  node,
+  Arg,
+  Head,
+  f-line,
+  s-line,
+  v-line,
+  g-line,
+  t-line,
+  p-line,
+  n-line,
+  Line,
+  values,
 }
 use Rattle.spec.specs.Read.{Test, first-failed, Reading, refusal-of}
 use Rattle.spec.specs.Readable.{All}

@@ -13,7 +13,20 @@ use Rattle.spec.specs.Limits.{text-limit}
 use Rattle.spec.specs.Ticket.{Tables}
 use Rattle.spec.specs.Forms.{Line, lineOf}
 use Rattle.spec.specs.Read.{
-  Reading, refusal-of, add, Step, stop, go, step, refused, accepted, left-over, at-end, read-lines, start, read-ticket,
+  Reading,
+  refusal-of,
+  add,
+  Step,
+  stop,
+  go,
+  step,
+  refused,
+  accepted,
+  left-over,
+  at-end,
+  read-lines,
+  start,
+  read-ticket,
 }
 use Rattle.spec.specs.Readable.{All, line-sum, TypesRight, Readable}
 use Rattle.spec.proofs.ReadingLines.{Formed, line-formed}

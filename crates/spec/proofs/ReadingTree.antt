@@ -7,8 +7,35 @@ use lib.ListN.{length}
 use Rattle.spec.specs.Limits.{depth-limit}
 use Rattle.spec.specs.Hir.{At, Expr, Place}
 use Rattle.spec.specs.Ticket.{
-  NodeWord, nBool, nInt, nF32, nF64, nNull, nStaticAddress, nFunction, nRead, nUnary, nBinary, nFunary, nFbinary,
-  nCompare, nConvert, nSelect, nAddress, nOffset, nAggregate, nExtract, nInsert, NodeLine, Tables, nodeAt, sum, exprsOf, exprOf, exprAt, placeAt,
+  NodeWord,
+  nBool,
+  nInt,
+  nF32,
+  nF64,
+  nNull,
+  nStaticAddress,
+  nFunction,
+  nRead,
+  nUnary,
+  nBinary,
+  nFunary,
+  nFbinary,
+  nCompare,
+  nConvert,
+  nSelect,
+  nAddress,
+  nOffset,
+  nAggregate,
+  nExtract,
+  nInsert,
+  NodeLine,
+  Tables,
+  nodeAt,
+  sum,
+  exprsOf,
+  exprOf,
+  exprAt,
+  placeAt,
 }
 use Rattle.spec.specs.Readable.{All, nodes-of-node, line-sum, node-sum, node-sums, root}
 use Rattle.spec.proofs.ReadingLists.{All-both, below-all, sum-le}
@@ -53,7 +80,7 @@ module _ (f : ℕ → ℕ) (T : Tables) (right : NodesRight (T .nodes)) where
       let s = sum-of f (λ i. placeAt d T i) (λ i. exprAt d T i) (record { line = n .line; node = k; ty = n .type }) (n .word) (n .args) in
       let below : All (λ i. i < k) (refs n) = below-all k (λ i. i < k) (refs n) (λ i q. q) ((right k h) .refs-earlier) in
       let r = sum-le (λ i. node-sum f (exprAt d T i)) (λ i. tree f d (T .nodes) i) (refs n)
-          (All-both (refs n) (λ i a b. expr-sum d i (omega arith) (omega arith)) below ((right k h) .refs-less-deep)) in
+      (All-both (refs n) (λ i a b. expr-sum d i (omega arith) (omega arith)) below ((right k h) .refs-less-deep)) in
       omega arith
 
 -- no node stands twice in the root's tree

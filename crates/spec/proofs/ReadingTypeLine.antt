@@ -10,7 +10,19 @@ use lib.Dec.{leb, eqb}
 use lib.ListN.{length, getD}
 use Rattle.spec.specs.Limits.{type-size-limit, type-weight-limit, type-depth-limit}
 use Rattle.spec.specs.Ticket.{
-  TypeWord, tUnit, tBool, tBits, tFloat, tPointer, tArray, tStruct, tTuple, tOpaque, TypeLine, Tables, arg,
+  TypeWord,
+  tUnit,
+  tBool,
+  tBits,
+  tFloat,
+  tPointer,
+  tArray,
+  tStruct,
+  tTuple,
+  tOpaque,
+  TypeLine,
+  Tables,
+  arg,
 }
 use Rattle.spec.specs.Forms.{between, Arg, t-line, values}
 use Rattle.spec.specs.Read.{Reading, refusal-of, alike, size-of, weight-of, depth-of}
@@ -81,13 +93,13 @@ width R w xa (next x done) e = in-range 1 64 x ((ranged R (record { head = t-lin
 
 pub new-type : (R : Reading) (w : TypeWord) (xa : List Arg) → TypeFormed w xa → refusal-of R (record { head = t-line w; args = xa }) ≡ none
     → TypeRight (R .tables .types) (length (R .tables .types))
-      (record {
-        word = w;
-        args = values xa;
-        size = size-of (R .tables) w (values xa);
-        weight = weight-of (R .tables) w (values xa);
-        depth = depth-of (R .tables) xa;
-      })
+    (record {
+      word = w;
+      args = values xa;
+      size = size-of (R .tables) w (values xa);
+      weight = weight-of (R .tables) w (values xa);
+      depth = depth-of (R .tables) xa;
+    })
 unfolding refusal-of
 new-type R w xa f e =
     let T : Tables = R .tables in

@@ -8,8 +8,24 @@ use lib.ListN.{length, getD, List·getD-append, List·getD-eq-default, length-ap
 use lib.Seq.{getD-append-seam}
 use Rattle.spec.specs.Limits.{type-size-limit, type-weight-limit, type-depth-limit}
 use Rattle.spec.specs.Ticket.{
-  TypeWord, tUnit, tBool, tBits, tFloat, tPointer, tArray, tStruct, tTuple, tOpaque, TypeLine, Tables, noType, typeAt, arg,
-  type-size-by, weight-by, type-size-in,
+  TypeWord,
+  tUnit,
+  tBool,
+  tBits,
+  tFloat,
+  tPointer,
+  tArray,
+  tStruct,
+  tTuple,
+  tOpaque,
+  TypeLine,
+  Tables,
+  noType,
+  typeAt,
+  arg,
+  type-size-by,
+  weight-by,
+  type-size-in,
 }
 use Rattle.spec.specs.Readable.{All, All-below, type-parts}
 use Rattle.spec.proofs.ReadingLists.{All-map, All-both, below-all, sum-same}
@@ -75,7 +91,7 @@ kept ts t k u h r =
     let ts′ : List TypeLine = ts ++ (t ∷ []) in
     let xs : List ℕ = type-parts (u .word) (u .args) in
     let e : All (λ i. at ts i ≡ at ts′ i) xs =
-        below-all k (λ i. at ts i ≡ at ts′ i) xs (λ i p. sym (List·getD-append ts (t ∷ []) noType i (omega arith))) (r .parts-earlier) in
+    below-all k (λ i. at ts i ≡ at ts′ i) xs (λ i p. sym (List·getD-append ts (t ∷ []) noType i (omega arith))) (r .parts-earlier) in
     record {
       sized = r .sized ∙ size-by-parts (size-at ts) (size-at ts′) (u .word) (u .args) (All-map xs (λ i p. ap (λ (v : TypeLine). v .size) p) e);
       weighed =

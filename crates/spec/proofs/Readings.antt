@@ -92,7 +92,8 @@ readings =
     record {
       ticket = the-printed-case;
       room = 136;
-      answered = accepted (text ("storage,1,2,2,0,0,36" ∷ "storage,2,3,0,1,1,2" ∷ "i,add,1.0,0.0,#12,-,2" ∷ "i,add,1.1,0.1,#0,2,-" ∷ "i,and,1.1,1.1,#1" ∷ "value,2,bytes,2,1.0,1.1" ∷ "done,3,2,2" ∷ [])) } ∷
+      answered = accepted (text ("storage,1,2,2,0,0,36" ∷ "storage,2,3,0,1,1,2" ∷ "i,add,1.0,0.0,#12,-,2" ∷ "i,add,1.1,0.1,#0,2,-" ∷ "i,and,1.1,1.1,#1" ∷ "value,2,bytes,2,1.0,1.1" ∷ "done,3,2,2" ∷ []));
+    } ∷
     []
 
 pub the-readings-hold : Hold readings

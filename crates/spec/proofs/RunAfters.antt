@@ -30,26 +30,32 @@ module _ (G : Given) (T : Tables) where
       → ((bs : List ByteOperand) (n′ : ℕ) (M′ : Memory) → n ≤ n′ → Agree n M M′ → Word w n′ M′ bs (number-in d) → From G n′ M′ (f (value ty (bytes-value bs))) Q)
       → After G (Gives T n M t d) f Q
   number-after {f = f} e I c =
-      record { go = λ v n′ M′ g. (
-        let k = bits-data T I (rw e at (g .has)) in
-        bytes-then f v (g .typed ∙ e) (rw (k .0) at (g .denotes)) (λ bs p. c bs n′ M′ (g .later) (g .agree) (record { fixed = p; fits = k .1 }))) }
+      record {
+        go = λ v n′ M′ g. (
+            let k = bits-data T I (rw e at (g .has)) in
+            bytes-then f v (g .typed ∙ e) (rw (k .0) at (g .denotes)) (λ bs p. c bs n′ M′ (g .later) (g .agree) (record { fixed = p; fits = k .1 })));
+      }
 
   pub pointer-after : TypesRight T → {t n : ℕ} {M : Memory} {d : Data} {B : Type 0} {f : Value → Lower B} {Q : B → ℕ → Memory → Type 0} → t ≡ 1
       → ((bs : List ByteOperand) (n′ : ℕ) (M′ : Memory) → n ≤ n′ → Agree n M M′ → Word 16 n′ M′ bs (number-in d) → From G n′ M′ (f (value 1 (bytes-value bs))) Q)
       → After G (Gives T n M t d) f Q
   pointer-after R {f = f} e c =
-      record { go = λ v n′ M′ g. (
-        let k = pointer-data T (R .pointer-second) (pointer-size T R) (rw e at (g .has)) in
-        bytes-then f v (g .typed ∙ e) (rw (k .0) at (g .denotes)) (λ bs p. c bs n′ M′ (g .later) (g .agree) (record { fixed = p; fits = k .1 }))) }
+      record {
+        go = λ v n′ M′ g. (
+            let k = pointer-data T (R .pointer-second) (pointer-size T R) (rw e at (g .has)) in
+            bytes-then f v (g .typed ∙ e) (rw (k .0) at (g .denotes)) (λ bs p. c bs n′ M′ (g .later) (g .agree) (record { fixed = p; fits = k .1 })));
+      }
 
   -- the bit of a bool
   pub flag-after : TypesRight T → {t n : ℕ} {M : Memory} {d : Data} {B : Type 0} {f : Value → Lower B} {Q : B → ℕ → Memory → Type 0} → t ≡ 0
       → ((b : BitOperand) (n′ : ℕ) (M′ : Memory) → n ≤ n′ → Agree n M M′ → number-in d < 2 → FixedBit n′ M′ b (number-in d) → From G n′ M′ (f (value 0 (bit-value b))) Q)
       → After G (Gives T n M t d) f Q
   flag-after R {f = f} e c =
-      record { go = λ v n′ M′ g. (
-        let k = flag-data T (R .bool-first) (rw e at (g .has)) in
-        bit-then f v (g .typed ∙ e) (rw (k .0) at (g .denotes)) (λ b p. c b n′ M′ (g .later) (g .agree) (k .1) p)) }
+      record {
+        go = λ v n′ M′ g. (
+            let k = flag-data T (R .bool-first) (rw e at (g .has)) in
+            bit-then f v (g .typed ∙ e) (rw (k .0) at (g .denotes)) (λ b p. c b n′ M′ (g .later) (g .agree) (k .1) p));
+      }
 
   -- the same step, under an equal type
   pub retyped : {n t ty : ℕ} {M : Memory} {d : Data} {m : Lower Value} → t ≡ ty → From G n M m (Gives T n M t d) → From G n M m (Gives T n M ty d)

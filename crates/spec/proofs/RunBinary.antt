@@ -14,14 +14,32 @@ use Rattle.spec.specs.Hir.{IntegerBinaryOp}
 use Rattle.spec.specs.Hir as hir
 use Rattle.spec.specs.Ticket.{Tables}
 use Rattle.spec.specs.Lir.{
-  ByteOperand, ByteBinaryOp, RotateDirection, ShiftOp, IntegerBinaryBytesOp, InstructionKind, add, subtract, shift-bytes, value, bytes-value,
+  ByteOperand,
+  ByteBinaryOp,
+  RotateDirection,
+  ShiftOp,
+  IntegerBinaryBytesOp,
+  InstructionKind,
+  add,
+  subtract,
+  shift-bytes,
+  value,
+  bytes-value,
 }
 use Rattle.spec.specs.Lir as lir
 use Rattle.spec.specs.Operands.{value-bytes, all-immediate, lowest-byte}
 use Rattle.spec.specs.Allocation.{bytes-from}
 use Rattle.spec.specs.Operators.{BinaryForm, adding, subtracting, bytewise, shifting, whole, binary-form, rotate-direction}
 use Rattle.spec.specs.Arithmetic.{
-  adds, subtracts, first-storage, first-operand, byte-rotates, byte-rotate, shifts, binary-instructions, lower-integer-binary,
+  adds,
+  subtracts,
+  first-storage,
+  first-operand,
+  byte-rotates,
+  byte-rotate,
+  shifts,
+  binary-instructions,
+  lower-integer-binary,
 }
 use Rattle.numerics.specs.Numerics.{iadd, isub, iand, ior, ixor, ishl, ishr-u, ishr-s, irotl, irotr}
 use Rattle.spec.specs.Machine.{Memory, Given, bytes-of, operands, byte-op, distance, shift-op, binary-op, defined, effect}
@@ -147,8 +165,10 @@ module _ (G : Given) where
           found = turned dir a (lowest-byte rs % 8) ∷ [];
           left = byte-rotates-run G (le-refl n) (first-operand ls) (first-is a ls (hl .fixed) ∙ mod-eq-of-lt (hl .fits)) (hl .fits) dir (lowest-byte rs % 8) (omega arith);
           word = ap (λ (x : ℕ). x ∷ [])
-            (ap (turned dir a) (ap (λ (x : ℕ). x % 8) (lowest-is b rs (hr .fixed) i ∙ mod-eq-of-lt (hr .fits))) ∙ turned-shift op dir a b e
-            ∙ sym (mod-eq-of-lt (shift-lt op 8 a b (omega arith) (hl .fits)))) } }
+              (ap (turned dir a) (ap (λ (x : ℕ). x % 8) (lowest-is b rs (hr .fixed) i ∙ mod-eq-of-lt (hr .fits))) ∙ turned-shift op dir a b e
+              ∙ sym (mod-eq-of-lt (shift-lt op 8 a b (omega arith) (hl .fits))));
+        };
+      }
 
   module _ {w n a b : ℕ} {M : Memory} {ls rs : List ByteOperand} (p : 0 < w) (hl : Word w n M ls a) (hr : Word w n M rs b)
       (f : leb w 8 || eqb (256 % w) 0 ≡ true) where
@@ -163,7 +183,8 @@ module _ (G : Given) where
     one-shift op =
         record {
           total = and-then (λ M. refl) no-more;
-          wrote = rw (number-is hl, near) (spreads (shift-lt op w a b p (hl .fits))) }
+          wrote = rw (number-is hl, near) (spreads (shift-lt op w a b p (hl .fits)));
+        }
       where
         some-byte : size w ≡ suc ((w - 1) / 8)
         some-byte = omega arith

@@ -14,9 +14,53 @@ use lib.Signed.{ltZ, leZ, quotZ}
 use Rattle.spec.specs.Lir.{ByteBinaryOp, ShiftOp, CompareOp, IntegerUnaryBytesOp, IntegerBinaryBytesOp}
 use Rattle.spec.specs.Lir as lir
 use Rattle.numerics.specs.Numerics.{
-  truth, undefined-if, signed, unsigned, sat-u, sat-s, iadd, isub, imul, idiv-u, idiv-s, irem-u, irem-s, ineg, iadd-sat-u, iadd-sat-s, isub-sat-u, isub-sat-s,
-  inot, shifted-left, shifted-right, rotated-left, rotated-right, top-bits, sign-bit, ishl, ishr-u, ishr-s, irotl, irotr,
-  trailing, ones, iclz, ictz, ipopcnt, ieq, ine, ilt-u, ilt-s, igt-u, igt-s, ile-u, ile-s, ige-u, ige-s, extend-s, wrap,
+  truth,
+  undefined-if,
+  signed,
+  unsigned,
+  sat-u,
+  sat-s,
+  iadd,
+  isub,
+  imul,
+  idiv-u,
+  idiv-s,
+  irem-u,
+  irem-s,
+  ineg,
+  iadd-sat-u,
+  iadd-sat-s,
+  isub-sat-u,
+  isub-sat-s,
+  inot,
+  shifted-left,
+  shifted-right,
+  rotated-left,
+  rotated-right,
+  top-bits,
+  sign-bit,
+  ishl,
+  ishr-u,
+  ishr-s,
+  irotl,
+  irotr,
+  trailing,
+  ones,
+  iclz,
+  ictz,
+  ipopcnt,
+  ieq,
+  ine,
+  ilt-u,
+  ilt-s,
+  igt-u,
+  igt-s,
+  ile-u,
+  ile-s,
+  ige-u,
+  ige-s,
+  extend-s,
+  wrap,
 }
 use Rattle.spec.specs.Machine.{byte-op, shift-op, compare-op, unary-op, binary-op}
 
@@ -35,7 +79,7 @@ swap-lt : (j k i : ℕ) → i < 2 ^ (j + k) → (i * 2 ^ k) % 2 ^ (j + k) + i / 
 swap-lt j k i h =
     rw (mod-pow-add (i * 2 ^ k) j k, shl-shr i k, mul-mod-left i (2 ^ k), pow-add 2 j k)
     (let d = digits-lt {q = i % 2 ^ j} {m = 2 ^ j} {r = i / 2 ^ j} {c = 2 ^ k} (mod-lt i (pow-pos j))
-        (shr-lt k j (rw (let e : k + j ≡ j + k = omega arith in e) h)) in omega arith)
+    (shr-lt k j (rw (let e : k + j ≡ j + k = omega arith in e) h)) in omega arith)
 
 rotl-lt : (w i k : ℕ) → i < 2 ^ w → k ≤ w → rotated-left w i k < 2 ^ w
 unfolding rotated-left
@@ -104,7 +148,7 @@ pub whole-lt : (op : IntegerBinaryBytesOp) (w a b : ℕ) {x : ℕ} → a < 2 ^ w
 unfolding binary-op imul idiv-s idiv-u irem-s irem-u iadd-sat-u iadd-sat-s isub-sat-u isub-sat-s
 whole-lt lir.multiply w a b h e = some-lt (mod-lt (a * b) (pow-pos w)) e
 whole-lt lir.divide-unsigned w a b h e = some-lt (omega (arith, div-le-self a b)) (defined-is (eqb b 0) _ e)
-whole-lt lir.divide-signed w a b h e = 
+whole-lt lir.divide-signed w a b h e =
     some-lt (unsigned-lt w (quotZ (signed w a) (signed w b)))
     (defined-is (is-number (quotZ (signed w a) (signed w b)) (2 ^ (w - 1))) _ (defined-is (eqb b 0) _ e))
 whole-lt lir.remainder-unsigned w a b h e = some-lt (omega (arith, mod-le a b)) (defined-is (eqb b 0) _ e)

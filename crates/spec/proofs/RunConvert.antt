@@ -16,7 +16,15 @@ use Rattle.spec.specs.Operands.{value-bytes, value-bit, value-type, valu
 use Rattle.spec.specs.Allocation.{type-size, odd-bits, bytes-from, bytes-at}
 use Rattle.spec.specs.Arithmetic.{zip2}
 use Rattle.spec.specs.Conversions.{
-  bit-to-bytes, not-zero, value-as-bit, normalized-bytes, resized, sign-extended, boolean-to-integer, integer-to-bool, reinterpreted,
+  bit-to-bytes,
+  not-zero,
+  value-as-bit,
+  normalized-bytes,
+  resized,
+  sign-extended,
+  boolean-to-integer,
+  integer-to-bool,
+  reinterpreted,
 }
 use Rattle.numerics.specs.Numerics.{ine, wrap, extend-s}
 use Rattle.spec.specs.Machine.{Memory, Given, bytes-of, bit-of, set-bit, set-byte, compare-op, defined, effect}
@@ -27,8 +35,24 @@ use Rattle.spec.proofs.RunLaws.{room-le, extend-wrap}
 use Rattle.spec.proofs.RunBounds.{wrap-lt, extend-lt, truth-lt}
 use Rattle.spec.proofs.RunRuns.{effects, Total, no-more, and-then, total-zip, total-map}
 use Rattle.spec.proofs.RunFrames.{
-  Agree, agree-refl, agree-bit, bit-here, agree-byte, Fixed, fixed-stored, Left, left-cons, set-bytes-left, set-here, at, copy-loop, zeros-run, zeros-le,
-  length-bytes-from, resize-run, zip2-zip3,
+  Agree,
+  agree-refl,
+  agree-bit,
+  bit-here,
+  agree-byte,
+  Fixed,
+  fixed-stored,
+  Left,
+  left-cons,
+  set-bytes-left,
+  set-here,
+  at,
+  copy-loop,
+  zeros-run,
+  zeros-le,
+  length-bytes-from,
+  resize-run,
+  zip2-zip3,
 }
 use Rattle.spec.proofs.RunHoare.{From, _then_, _next_, ending, Is, allocates-bit, emitting, emitting-one, purely, got, at-it, requiring}
 use Rattle.spec.proofs.RunTyping.{IsBits, Has, has-bits, has-bool}
@@ -83,7 +107,7 @@ module _ (G : Given) (T : Tables) where
           found = bytes-of (size w) (extend-s v (8 * size w) a);
           left = set-bytes-left n n (le-refl n) (size w) 0 _ M (length-bytes-of (size w) _);
           word = masked w _ ∙ ap (bytes-of (size w))
-            (ap (λ (x : ℕ). extend-s v x a % 2 ^ w) (let e : 8 * size w ≡ (8 * size w - w) + w = omega arith in e) ∙ extend-wrap v w (8 * size w - w) a);
+              (ap (λ (x : ℕ). extend-s v x a % 2 ^ w) (let e : 8 * size w ≡ (8 * size w - w) + w = omega arith in e) ∙ extend-wrap v w (8 * size w - w) a);
         })
 
     pub sign-step : {n a : ℕ} {M : Memory} (bs : List ByteOperand) (t ty : ℕ) → IsBits T t v → IsBits T ty w → Word v n M bs a
@@ -164,9 +188,12 @@ module _ (G : Given) (T : Tables) where
       (_next_ G (emitting G _ (total-bit _ b)) (at-it G (ending G (read-back G T ty n B)
       (let L = spelled-bit (size w) (omega (arith, B .some-width)) l h in
       record {
-        later = omega arith; agree = L .agree; typed = refl;
+        later = omega arith;
+        agree = L .agree;
+        typed = refl;
         has = has-bits T B (le-trans l (pow-mono {i = 1} {j = w} (B .some-width)));
-        denotes = of-bytes (fixed-stored (suc n) n (omega arith) (size w) 0 _ _ (L .written)) })))))))))
+        denotes = of-bytes (fixed-stored (suc n) n (omega arith) (size w) 0 _ _ (L .written));
+      })))))))))
 
   -- ------------------------------------------------------------ Reinterpret
 

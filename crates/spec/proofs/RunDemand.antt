@@ -65,7 +65,8 @@ left-by G M T s d p r =
       runs = r .runs;
       value = r .holds;
       bytes = r .bytes;
-      bits = r .bits }
+      bits = r .bits;
+    }
 
 -- DEMAND 2, running
 pub runs-right : TypesRead → RunsRight

@@ -13,5 +13,9 @@ running T R N e t s G M P i d q h c older v c′ o w =
     let L = outcome G (rightly G T R N (c .storage) older M P e t s i d q (c .storage) M (le-refl (c .storage)) agree-refl) h (c .temporary) v c′ o w in
     let A = L .left .agree in
     record {
-      after = effects G (kinds (o .instructions)) M; runs = ran G L; holds = holds-value T R v (L .left);
-      bytes = λ k i h. A .bytes k i h; bits = λ k h. A .bits k h }
+      after = effects G (kinds (o .instructions)) M;
+      runs = ran G L;
+      holds = holds-value T R v (L .left);
+      bytes = λ k i h. A .bytes k i h;
+      bits = λ k h. A .bits k h;
+    }

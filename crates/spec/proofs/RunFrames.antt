@@ -11,7 +11,18 @@ use lib.Dec.{eqb}
 use borrow.Author.Tests.{ne-eqb, eq-eqb}
 use lib.ListN.{length, replicate}
 use Rattle.spec.specs.Lir.{
-  InstructionKind, ByteStorage, ByteOperand, immediate, stored, add, subtract, byte-binary, not-byte, copy-byte, ByteBinaryOp, RotateDirection,
+  InstructionKind,
+  ByteStorage,
+  ByteOperand,
+  immediate,
+  stored,
+  add,
+  subtract,
+  byte-binary,
+  not-byte,
+  copy-byte,
+  ByteBinaryOp,
+  RotateDirection,
 }
 use Rattle.spec.specs.Operands.{resize}
 use Rattle.spec.specs.Allocation.{bytes-from}
@@ -241,7 +252,6 @@ fixed-stored b D h n o M vs e = record { holds = λ M′ a. unmoved n o M′ a �
     unmoved : (n o : ℕ) (M′ : Memory) → Agree b M M′ → operands M′ (map stored (bytes-from D o n)) ≡ operands M (map stored (bytes-from D o n))
     unmoved zero o M′ a = refl
     unmoved (suc n) o M′ a = ap₂ (λ (x : ℕ) (l : List ℕ). x ∷ l) (a .bytes D o h) (unmoved n (suc o) M′ a)
-
 
 pub resize-run : (k : ℕ) (M : Memory) (bs : List ByteOperand) → operands M (resize k bs) ≡ resize-list k (operands M bs)
 unfolding resize-list resize

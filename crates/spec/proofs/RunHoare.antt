@@ -38,7 +38,8 @@ module _ (G : Given) where
       let e = kinds-append (o .instructions) (p .instructions) in
       record {
         means = rw e (defined-append G (kinds (o .instructions)) (kinds (p .instructions)) M d (k .means));
-        left = rw (e, effects-append G (kinds (o .instructions)) (kinds (p .instructions)) M) (k .left) }
+        left = rw (e, effects-append G (kinds (o .instructions)) (kinds (p .instructions)) M) (k .left);
+      }
 
   -- what follows a step that leads to Q
   pub record After {A B : Type 0} (Q : A → ℕ → Memory → Type 0) (f : A → Lower B) (R : B → ℕ → Memory → Type 0) : Type 0 where

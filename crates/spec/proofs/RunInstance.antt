@@ -48,21 +48,22 @@ types-right = record {
   sized = nine _ refl refl refl refl refl refl refl refl refl (λ n. refl);
   weighed = nine _ refl refl refl refl refl refl refl refl refl (λ n. refl);
   width-least =
-    nine (λ ty. (typeAt T ty) .word ≡ tBits → 1 ≤ arg ((typeAt T ty) .args) 0) (λ e. no-bits cc) (λ e. no-bits cc)
-    (λ e. omega arith) (λ e. omega arith) (λ e. omega arith) (λ e. omega arith) (λ e. omega arith) (λ e. omega arith) (λ e. no-bits cc) (λ n e. no-bits cc);
+      nine (λ ty. (typeAt T ty) .word ≡ tBits → 1 ≤ arg ((typeAt T ty) .args) 0) (λ e. no-bits cc) (λ e. no-bits cc)
+      (λ e. omega arith) (λ e. omega arith) (λ e. omega arith) (λ e. omega arith) (λ e. omega arith) (λ e. omega arith) (λ e. no-bits cc) (λ n e. no-bits cc);
   width-most =
-    nine (λ ty. (typeAt T ty) .word ≡ tBits → arg ((typeAt T ty) .args) 0 ≤ 64) (λ e. omega arith) (λ e. omega arith)
-    (λ e. omega arith) (λ e. omega arith) (λ e. omega arith) (λ e. omega arith) (λ e. omega arith) (λ e. omega arith) (λ e. omega arith) (λ n e. omega arith);
+      nine (λ ty. (typeAt T ty) .word ≡ tBits → arg ((typeAt T ty) .args) 0 ≤ 64) (λ e. omega arith) (λ e. omega arith)
+      (λ e. omega arith) (λ e. omega arith) (λ e. omega arith) (λ e. omega arith) (λ e. omega arith) (λ e. omega arith) (λ e. omega arith) (λ n e. omega arith);
   size-most =
-    nine (λ ty. (typeAt T ty) .size ≤ 1024) (omega arith) (omega arith) (omega arith) (omega arith) (omega arith) (omega arith) (omega arith) (omega arith)
-    (omega arith) (λ n. omega arith);
+      nine (λ ty. (typeAt T ty) .size ≤ 1024) (omega arith) (omega arith) (omega arith) (omega arith) (omega arith) (omega arith) (omega arith) (omega arith)
+      (omega arith) (λ n. omega arith);
   weight-most =
-    nine (λ ty. (typeAt T ty) .weight ≤ 4096) (omega arith) (omega arith) (omega arith) (omega arith) (omega arith) (omega arith) (omega arith) (omega arith)
-    (omega arith) (λ n. omega arith);
+      nine (λ ty. (typeAt T ty) .weight ≤ 4096) (omega arith) (omega arith) (omega arith) (omega arith) (omega arith) (omega arith) (omega arith) (omega arith)
+      (omega arith) (λ n. omega arith);
   parts-earlier = nine (λ ty. All-below ty (type-parts ((typeAt T ty) .word) ((typeAt T ty) .args))) tt tt tt tt tt tt tt tt (omega arith, tt) (λ n. tt);
   depth-most =
-    nine (λ ty. (typeAt T ty) .depth ≤ 16) (omega arith) (omega arith) (omega arith) (omega arith) (omega arith) (omega arith) (omega arith) (omega arith)
-    (omega arith) (λ n. omega arith) }
+      nine (λ ty. (typeAt T ty) .depth ≤ 16) (omega arith) (omega arith) (omega arith) (omega arith) (omega arith) (omega arith) (omega arith) (omega arith)
+      (omega arith) (λ n. omega arith);
+}
 
 pub needs : NeedsOf T
 needs = record { variables = placed-by-test T (T .variables) refl; statics = placed-by-test T (T .statics) refl }

@@ -11,8 +11,22 @@ use borrow.Author.Tests.{eqb-true, leb-true, ltb-true}
 use lib.ListN.{length}
 use Rattle.spec.specs.Limits.{type-depth-limit}
 use Rattle.spec.specs.Hir.{
-  At, Expr, boolean, integer, null-pointer, static-address, function-address, read, integer-unary, integer-binary, compare, address-of, Place,
-  IntegerUnaryOp, IntegerBinaryOp, CompareOp,
+  At,
+  Expr,
+  boolean,
+  integer,
+  null-pointer,
+  static-address,
+  function-address,
+  read,
+  integer-unary,
+  integer-binary,
+  compare,
+  address-of,
+  Place,
+  IntegerUnaryOp,
+  IntegerBinaryOp,
+  CompareOp,
 }
 use Rattle.spec.specs.Ticket.{Tables}
 use Rattle.spec.specs.Readable.{TypesRight}
@@ -23,7 +37,19 @@ use Rattle.spec.specs.Lower.{lower-integer, lower-expression}
 use Rattle.spec.specs.Machine.{Memory, Proper, Given, bytes-of, operands}
 use Rattle.spec.specs.Typed.{type-of, width, typed}
 use Rattle.spec.specs.Eval.{
-  Data, flag, number, number-in, binary-numeric, compare-numeric, eval, based, read-data, read-inside, fits, distance-fits, in-order,
+  Data,
+  flag,
+  number,
+  number-in,
+  binary-numeric,
+  compare-numeric,
+  eval,
+  based,
+  read-data,
+  read-inside,
+  fits,
+  distance-fits,
+  in-order,
 }
 use Rattle.spec.proofs.RunLogic.{both}
 use Rattle.spec.proofs.RunWords.{size}

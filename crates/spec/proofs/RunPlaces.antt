@@ -17,7 +17,17 @@ use Rattle.spec.specs.Lir.{Instruction}
 use Rattle.spec.specs.Monad.{Lower, Outcome, refused, done, Out, Counters, _>>=_, _>>_, bind-to, prepend, pure, or-refuse, require}
 use Rattle.spec.specs.Allocation.{Location}
 use Rattle.spec.specs.Places.{
-  Base, within, field-offset, element-offset, base-of, part-of, opaque-rest, resolve-place-base, with-type, location-in, resolve-place,
+  Base,
+  within,
+  field-offset,
+  element-offset,
+  base-of,
+  part-of,
+  opaque-rest,
+  resolve-place-base,
+  with-type,
+  location-in,
+  resolve-place,
 }
 use Rattle.spec.specs.ReadBytes.{read-location}
 use Rattle.spec.specs.Lower.{lower-read}

@@ -18,7 +18,13 @@ use Rattle.spec.specs.Places.{Base, is-one}
 use Rattle.spec.specs.ReadBytes.{read-plain, read-word, read-bytes-as-type, read-location}
 use Rattle.spec.specs.Arithmetic.{adds, first-storage}
 use Rattle.spec.specs.Select.{
-  second-storage, require-addressable, materialize-location-address, lower-address-of, lower-static-address, lower-function-address, lower-pointer-offset,
+  second-storage,
+  require-addressable,
+  materialize-location-address,
+  lower-address-of,
+  lower-static-address,
+  lower-function-address,
+  lower-pointer-offset,
 }
 use Rattle.spec.specs.Machine.{Memory, Given, bytes-of, operand, operands, set-byte, defined, effect}
 use Rattle.spec.specs.Eval.{number, based}
@@ -26,7 +32,18 @@ use Rattle.spec.proofs.RunWords.{length-bytes-of, bytes-of-mod, ripple-
 use Rattle.spec.proofs.RunLaws.{room-le}
 use Rattle.spec.proofs.RunRuns.{total-zip}
 use Rattle.spec.proofs.RunFrames.{
-  agree-refl, agree-byte, fixed-stored, Left, left-cons, set-beside, set-here, at, loop-run, add-loop, length-bytes-from, resize-run,
+  agree-refl,
+  agree-byte,
+  fixed-stored,
+  Left,
+  left-cons,
+  set-beside,
+  set-here,
+  at,
+  loop-run,
+  add-loop,
+  length-bytes-from,
+  resize-run,
 }
 use Rattle.spec.proofs.RunHoare.{From, _then_, _next_, ending, Is, it, emitting, emitting-one, purely, got, at-it, requiring, allocates-carry}
 use Rattle.spec.proofs.RunTyping.{has-pointer, pointer-size}
@@ -54,8 +71,12 @@ module _ (G : Given) (T : Tables) (R : TypesRight T) where
   unfolding read-location read-bytes-as-type read-word read-plain type-size
   pointed {n} {n′} {M} {M′} x h L =
       rw (R .pointer-second, pointer-size T R) (ending G (purely G _) (record {
-        later = le-trans (omega arith) h; agree = L .agree; typed = refl; has = has-pointer T R (x % 65536) (omega arith);
-        denotes = of-bytes (fixed-stored n′ n h 2 0 M′ _ (L .written ∙ sym (bytes-of-mod 2 x))) }))
+        later = le-trans (omega arith) h;
+        agree = L .agree;
+        typed = refl;
+        has = has-pointer T R (x % 65536) (omega arith);
+        denotes = of-bytes (fixed-stored n′ n h 2 0 M′ _ (L .written ∙ sym (bytes-of-mod 2 x)));
+      }))
 
   two-bytes : {n : ℕ} {M : Memory} (x : ℕ) → Left n n 0 2 M (set-byte (at n 1) (x / 256 % 256) (set-byte (at n 0) (x % 256) M)) (bytes-of 2 x)
   unfolding bytes-of bytes-from

@@ -13,11 +13,65 @@ use Rattle.spec.specs.Text.{number, split, comma, line-feed}
 use Rattle.spec.specs.Limits.{text-limit}
 use Rattle.spec.specs.Ticket.{Tables, PlacedLine, arg}
 use Rattle.spec.specs.Forms.{
-  Field, between, float-width, type-part, storage, type, place, node, Rule, find, type-rules, place-rules, node-rules, kind-rules, function-fields, storage-fields, placed-fields, args-of, Arg, Line, values, lineOf, form-of, type-form, place-form, node-form,
-  Kind, kF, kT, kS, kV, kG, kP, kN, Head, f-line, s-line, v-line, g-line, t-line, p-line, n-line,
+  Field,
+  between,
+  float-width,
+  type-part,
+  storage,
+  type,
+  place,
+  node,
+  Rule,
+  find,
+  type-rules,
+  place-rules,
+  node-rules,
+  kind-rules,
+  function-fields,
+  storage-fields,
+  placed-fields,
+  args-of,
+  Arg,
+  Line,
+  values,
+  lineOf,
+  form-of,
+  type-form,
+  place-form,
+  node-form,
+  Kind,
+  kF,
+  kT,
+  kS,
+  kV,
+  kG,
+  kP,
+  kN,
+  Head,
+  f-line,
+  s-line,
+  v-line,
+  g-line,
+  t-line,
+  p-line,
+  n-line,
 }
 use Rattle.spec.specs.Read.{
-  Reading, Test, first-failed, refusal-of, add-line, add, Step, stop, go, step, left-over, at-end, read-lines, read-ticket, start,
+  Reading,
+  Test,
+  first-failed,
+  refusal-of,
+  add-line,
+  add,
+  Step,
+  stop,
+  go,
+  step,
+  left-over,
+  at-end,
+  read-lines,
+  read-ticket,
+  start,
 }
 use Rattle.spec.specs.Read as reading
 use Rattle.spec.specs.Operands.{nth}
@@ -152,15 +206,18 @@ line-needs T n (t-line w) xa N a = record { variables = λ k p e. more (le-refl 
 line-needs T n s-line xa N a =
     record {
       variables = λ k p e. more (longer (T .storages) _) (N .variables k p e);
-      statics = λ k p e. more (longer (T .storages) _) (N .statics k p e) }
+      statics = λ k p e. more (longer (T .storages) _) (N .statics k p e);
+    }
 line-needs T n v-line xa N a =
     record {
       variables = λ k p e. more (le-refl _) (nth-last (T .variables) _ k p e (N .variables k p) (λ q. rw q at a));
-      statics = λ k p e. more (le-refl _) (N .statics k p e) }
+      statics = λ k p e. more (le-refl _) (N .statics k p e);
+    }
 line-needs T n g-line xa N a =
     record {
       variables = λ k p e. more (le-refl _) (N .variables k p e);
-      statics = λ k p e. more (le-refl _) (nth-last (T .statics) _ k p e (N .statics k p) (λ q. rw q at a)) }
+      statics = λ k p e. more (le-refl _) (nth-last (T .statics) _ k p e (N .statics k p) (λ q. rw q at a));
+    }
 line-needs T n (p-line w) xa N a = record { variables = λ k p e. more (le-refl _) (N .variables k p e); statics = λ k p e. more (le-refl _) (N .statics k p e) }
 line-needs T n (n-line w) xa N a = record { variables = λ k p e. more (le-refl _) (N .variables k p e); statics = λ k p e. more (le-refl _) (N .statics k p e) }
 

@@ -11,8 +11,22 @@ use Rattle.spec.specs.Limits.{type-depth-limit}
 use Rattle.spec.specs.Ticket.{Tables, typeAt}
 use Rattle.spec.specs.Readable.{TypesRight}
 use Rattle.spec.specs.Lir.{
-  Value, value, Repr, Values, ByteOperand, BitOperand, ValueOperand, bit-operand, byte-operand, bit-storage, byte-storage, flatten-repr,
-  flatten-values, flatten-value-operands, select-byte, select-bit,
+  Value,
+  value,
+  Repr,
+  Values,
+  ByteOperand,
+  BitOperand,
+  ValueOperand,
+  bit-operand,
+  byte-operand,
+  bit-storage,
+  byte-storage,
+  flatten-repr,
+  flatten-values,
+  flatten-value-operands,
+  select-byte,
+  select-bit,
 }
 use Rattle.spec.specs.Operands.{value-type, value-repr}
 use Rattle.spec.specs.Allocation.{type-size, allocate-temporary, bytes-from, bytes-at, location-value-storages}
@@ -22,7 +36,21 @@ use Rattle.spec.specs.Machine.{Memory, Given, operand, operands, bit-of,
 use Rattle.spec.specs.Eval.{Data, flag, Datas, number-in}
 use Rattle.spec.proofs.RunFrames.{Agree, agree-refl, agree-trans, agree-byte, Left, left-cons, set-beside, set-here, at, heads, tails, nil-cons}
 use Rattle.spec.proofs.RunHoare.{
-  From, After, _then_, _next_, weaken, ending, Is, emitting-one, purely, got, at-it, requiring, allocates, refused-first, never,
+  From,
+  After,
+  _then_,
+  _next_,
+  weaken,
+  ending,
+  Is,
+  emitting-one,
+  purely,
+  got,
+  at-it,
+  requiring,
+  allocates,
+  refused-first,
+  never,
 }
 use Rattle.spec.proofs.RunTyping.{Has, flag-data, image, images, has-size}
 use Rattle.spec.proofs.RunValues.{FixedBit, Denotes, of-unit, of-bit, of-bytes, of-parts, DenoteAll, of-none, of-more, Gives, sets}
@@ -98,8 +126,11 @@ module _ (G : Given) (T : Tables) (R : TypesRight T) where
         (pieces-run k (suc o) n ts fs xs ys M₁ (record { holds = λ M′ q. hc .holds M′ (agree-trans {b = b} (omega arith) a₁ q) })
         (record { holds = λ M′ q. tails (ht .holds M′ (agree-trans {b = b} (omega arith) a₁ q)) }) (record { holds = λ M′ q. tails (hf .holds M′ (agree-trans {b = b} (omega arith) a₁ q)) })
         (omega arith) (omega arith))
-        (λ u n′ M′ P. record { same = P .same; left = rw (pick-cons (eqb x 0) y z ys xs)
-          (left-cons a₁ (λ p l. set-beside (at D o) v M p (λ e. omega arith)) (set-here (at D o) v M ∙ rw (hc .holds M agree-refl, heads (ht .holds M agree-refl), heads (hf .holds M agree-refl))) (P .left)) })))))
+        (λ u n′ M′ P. record {
+          same = P .same;
+          left = rw (pick-cons (eqb x 0) y z ys xs)
+              (left-cons a₁ (λ p l. set-beside (at D o) v M p (λ e. omega arith)) (set-here (at D o) v M ∙ rw (hc .holds M agree-refl, heads (ht .holds M agree-refl), heads (hf .holds M agree-refl))) (P .left));
+        })))))
       where
         v : ℕ
         v = pick (eqb (bit-of M c) 0) (operand M f) (operand M t)
@@ -136,11 +167,17 @@ module _ (G : Given) (T : Tables) (R : TypesRight T) where
       → After G (Picked n n 0 ((typeAt T ty) .size) (suc n) M xs) (λ _. read-location T (at-next ty n)) (Gives T n M ty d)
   unfolding read-location
   chosen-back {n} {M} {d} {xs} ty q e =
-      record { go = λ _ n′ M′ P. rw (P .same) (weaken G
-        (type-read T n G type-depth-limit ty 0 (suc n) M′ d (omega arith) (image-stands M′ n T R q type-depth-limit 0 (record { found = rw (has-size T R q) (P .left .written ∙ e) })))
-        (λ v n″ M″ g. record {
-          later = le-trans (omega arith) (g .later); agree = agree-trans {b = n} (omega arith) (P .left .agree) (g .agree); typed = g .typed; has = g .has;
-          denotes = g .denotes })) }
+      record {
+        go = λ _ n′ M′ P. rw (P .same) (weaken G
+            (type-read T n G type-depth-limit ty 0 (suc n) M′ d (omega arith) (image-stands M′ n T R q type-depth-limit 0 (record { found = rw (has-size T R q) (P .left .written ∙ e) })))
+            (λ v n″ M″ g. record {
+              later = le-trans (omega arith) (g .later);
+              agree = agree-trans {b = n} (omega arith) (P .left .agree) (g .agree);
+              typed = g .typed;
+              has = g .has;
+              denotes = g .denotes;
+            }));
+      }
 
   -- ------------------------------------------------------------ one bit
 

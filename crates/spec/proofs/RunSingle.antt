@@ -8,8 +8,29 @@ use native.Mathlib.Omega.{arith}
 use lib.Dec.{eqb}
 use borrow.Author.Tests.{eqb-true}
 use Rattle.spec.specs.Hir.{
-  At, Expr, boolean, integer, float32, float64, null-pointer, static-address, function-address, read, integer-unary, integer-binary,
-  float-unary, float-binary, compare, convert, select, address-of, pointer-offset, aggregate, extract-element, insert-element, ConversionOp,
+  At,
+  Expr,
+  boolean,
+  integer,
+  float32,
+  float64,
+  null-pointer,
+  static-address,
+  function-address,
+  read,
+  integer-unary,
+  integer-binary,
+  float-unary,
+  float-binary,
+  compare,
+  convert,
+  select,
+  address-of,
+  pointer-offset,
+  aggregate,
+  extract-element,
+  insert-element,
+  ConversionOp,
 }
 use Rattle.spec.specs.Hir as hir
 use Rattle.spec.specs.Ticket.{Tables}
@@ -44,7 +65,6 @@ use Rattle.spec.proofs.RunFinal.{running}
 pub record Held (n : ℕ) (M : Memory) (d : Data) (v : Value) (n′ : ℕ) (M′ : Memory) : Type 0 where
   pub agree : Agree n M M′
   pub holds : data-of M′ v ≡ d
-
 
 -- bool is no bits type
 bool-no-bits : (T : Tables) → TypesRight T → (t : ℕ) {A : Type 0} → t ≡ 0 → is-bits T t ≡ true → A
@@ -212,5 +232,10 @@ single T R N e l t G M P i d q h c older v c′ o w = go e (single-view T R e l 
     go e (all-sound-in s) t i q w = running T R N e t s G M P i d q h c older v c′ o w
     go e (converts-constant {h = k₁} {k = k₂} {op = op} {b = b}) t i q w =
         let L = outcome G (constant-case G T R M k₁ k₂ op b d t q) h (c .temporary) v c′ o w in
-        record { after = effects G (kinds (o .instructions)) M; runs = ran G L; holds = L .left .holds;
-          bytes = λ k i h. L .left .agree .bytes k i h; bits = λ k h. L .left .agree .bits k h }
+        record {
+          after = effects G (kinds (o .instructions)) M;
+          runs = ran G L;
+          holds = L .left .holds;
+          bytes = λ k i h. L .left .agree .bytes k i h;
+          bits = λ k h. L .left .agree .bits k h;
+        }

@@ -19,11 +19,38 @@ use Rattle.spec.proofs.RunLogic.{both}
 use Rattle.spec.proofs.RunWords.{length-bytes-of}
 use Rattle.spec.proofs.RunFrames.{heads, tails}
 use Rattle.spec.proofs.RunTyping.{
-  Plain, plain-bits, plain-pointer, plain-opaque, Has, has-unit, has-bool, has-number, has-array, has-struct, has-tuple, HasAll, has-none, has-more,
-  by-word, image, images, has-size,
+  Plain,
+  plain-bits,
+  plain-pointer,
+  plain-opaque,
+  Has,
+  has-unit,
+  has-bool,
+  has-number,
+  has-array,
+  has-struct,
+  has-tuple,
+  HasAll,
+  has-none,
+  has-more,
+  by-word,
+  image,
+  images,
+  has-size,
 }
 use Rattle.spec.proofs.RunReading.{
-  Stands, StandAll, too-deep, as-float, as-unit, as-bool, as-number, as-array, as-struct, as-tuple, stand-none, stand-more,
+  Stands,
+  StandAll,
+  too-deep,
+  as-float,
+  as-unit,
+  as-bool,
+  as-number,
+  as-array,
+  as-struct,
+  as-tuple,
+  stand-none,
+  stand-more,
 }
 
 -- ---------------------------------------------------------------- from a memory

@@ -73,15 +73,17 @@ module _ (G : Given) (T : Tables) where
     pub finish : {n x : ℕ} {M : Memory} (ty : ℕ) → IsBits T ty w → x < 2 ^ w
         → After G (Wrote w n x M) (λ _. _>>_ (mask-location T (at-next ty n)) (read-location T (at-next ty n))) (Gives T n M ty (number (size w) x))
     finish {n} {x} {M} ty B h =
-        record { go = λ u n′ M₁ W. _next_ G (masked-at ty n B) (at-it G (ending G (read-back ty n B) (
-          let L = left-then (W .left) (mask-run G n n (le-refl n) (w % 8) (size w) 0 M₁) in
-          record {
-            later = omega (arith, W .later);
-            agree = L .agree;
-            typed = refl;
-            has = has-bits T B h;
-            denotes = of-bytes (fixed-stored n′ n (W .later) (size w) 0 _ _ (L .written ∙ ap (mask-last (w % 8)) (W .left .written) ∙ W .word));
-          }))) }
+        record {
+          go = λ u n′ M₁ W. _next_ G (masked-at ty n B) (at-it G (ending G (read-back ty n B) (
+              let L = left-then (W .left) (mask-run G n n (le-refl n) (w % 8) (size w) 0 M₁) in
+              record {
+                later = omega (arith, W .later);
+                agree = L .agree;
+                typed = refl;
+                has = has-bits T B h;
+                denotes = of-bytes (fixed-stored n′ n (W .later) (size w) 0 _ _ (L .written ∙ ap (mask-last (w % 8)) (W .left .written) ∙ W .word));
+              })));
+        }
 
 -- ---------------------------------------------------------------- what the instructions read and write
 
@@ -102,7 +104,7 @@ looped G {w} {n} {x} {M} {ls} {rs} a b n′ L hl hr h c e =
       later = h;
       found = _;
       left = loop-run G L (le-refl n) (size w) 0 0 0 _ _ ls rs M (omega (arith, length-bytes-from n 0 (size w))) hl hr
-        (length-bytes-of (size w) a) (length-bytes-of (size w) b) (λ _. c);
+          (length-bytes-of (size w) a) (length-bytes-of (size w) b) (λ _. c);
       word = e;
     }
 

@@ -99,8 +99,10 @@ sets {n = n} {M = M} x q =
 module _ (G : Given) (T : Tables) where
   pub gathered : {n ty : ℕ} {M : Memory} {ts : List ℕ} {ds : Datas} → (HasAll T ts ds → Has T ty (parts ds))
       → After G (GivesAll T n M ts ds) (λ vs. pure (value ty (lir.aggregate vs))) (Gives T n M ty (parts ds))
-  gathered k = record { go = λ vs n₁ M₁ g. ending G (purely G _)
-      (record { later = g .later; agree = g .agree; typed = refl; has = k (g .has); denotes = of-parts (g .denote) }) }
+  gathered k = record {
+    go = λ vs n₁ M₁ g. ending G (purely G _)
+        (record { later = g .later; agree = g .agree; typed = refl; has = k (g .has); denotes = of-parts (g .denote) });
+  }
 
   pub nothing-read : {n : ℕ} {M : Memory} → From G n M (pure no-values) (GivesAll T n M [] no-data)
   nothing-read {n} = ending G (purely G _) (record { later = le-refl n; agree = agree-refl; has = has-none; denote = of-none })
@@ -109,10 +111,17 @@ module _ (G : Given) (T : Tables) where
       → ((n₁ : ℕ) (M₁ : Memory) → n ≤ n₁ → Agree n M M₁ → From G n₁ M₁ rest (GivesAll T n₁ M₁ ts ds))
       → After G (Gives T n M t d) (λ v. rest >>= (λ vs. pure (v ∷ᵛ vs))) (GivesAll T n M (t ∷ ts) (part t d ds))
   one-more k =
-      record { go = λ v n₁ M₁ g. _then_ G (k n₁ M₁ (g .later) (g .agree)) (record { go = λ vs n₂ M₂ q. ending G (purely G _)
-        (record {
-          later = le-trans (g .later) (q .later); agree = agree-trans (g .later) (g .agree) (q .agree); has = has-more (g .has) (q .has);
-          denote = of-more (g .typed) (denotes-later (q .later) (q .agree) (g .denotes)) (q .denote) }) }) }
+      record {
+        go = λ v n₁ M₁ g. _then_ G (k n₁ M₁ (g .later) (g .agree)) (record {
+          go = λ vs n₂ M₂ q. ending G (purely G _)
+              (record {
+                later = le-trans (g .later) (q .later);
+                agree = agree-trans (g .later) (g .agree) (q .agree);
+                has = has-more (g .has) (q .has);
+                denote = of-more (g .typed) (denotes-later (q .later) (q .agree) (g .denotes)) (q .denote);
+              });
+        });
+      }
 
 -- ---------------------------------------------------------------- the memory holds what the pieces denote
 

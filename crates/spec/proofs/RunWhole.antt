@@ -9,9 +9,32 @@ use lib.Dec.{eqb}
 use borrow.Author.Tests.{eqb-true}
 use lib.ListN.{length}
 use Rattle.spec.specs.Hir.{
-  At, Expr, boolean, integer, float32, float64, null-pointer, static-address, function-address, read, integer-unary, integer-binary,
-  float-unary, float-binary, compare, convert, select, address-of, pointer-offset, aggregate, extract-element, insert-element,
-  Exprs, no-exprs, _∷ᵉ_, ConversionOp,
+  At,
+  Expr,
+  boolean,
+  integer,
+  float32,
+  float64,
+  null-pointer,
+  static-address,
+  function-address,
+  read,
+  integer-unary,
+  integer-binary,
+  float-unary,
+  float-binary,
+  compare,
+  convert,
+  select,
+  address-of,
+  pointer-offset,
+  aggregate,
+  extract-element,
+  insert-element,
+  Exprs,
+  no-exprs,
+  _∷ᵉ_,
+  ConversionOp,
 }
 use Rattle.spec.specs.Ticket.{Tables, typeAt}
 use Rattle.spec.specs.Readable.{TypesRight}
@@ -35,7 +58,20 @@ use Rattle.spec.proofs.RunParts.{types-of, type-is, parts-of, part-type
 use Rattle.spec.proofs.RunAfters.{number-after, pointer-after, flag-after, retyped}
 use Rattle.spec.proofs.RunConverting.{conversion-step}
 use Rattle.spec.proofs.RunOperations.{
-  found, found-map, of-some, Lowers, boolean-case, integer-case, null-case, static-case, function-case, address-case, read-case, unary-case, binary-case, compare-case,
+  found,
+  found-map,
+  of-some,
+  Lowers,
+  boolean-case,
+  integer-case,
+  null-case,
+  static-case,
+  function-case,
+  address-case,
+  read-case,
+  unary-case,
+  binary-case,
+  compare-case,
 }
 
 -- whether x is 0 is whether y is
@@ -74,9 +110,9 @@ module _ (G : Given) (T : Tables) (R : TypesRight T) (N : NeedsOf T) (n₀ : ℕ
   unfolding as-bit
   condition-step {n} {M} {m} {d} h t e p = either (eqb t 0) (is-bits T t) e
       (λ b. _then_ G p (flag-after G T R (eqb-true t 0 b) (λ c n₁ M₁ l₁ a₁ l f₁.
-        owned G h (weaken G (bit-as-bit G T 0 f₁) (λ o n′ M′ q. record { x = number-in d; same = refl; bit = from l₁ a₁ q })))))
+      owned G h (weaken G (bit-as-bit G T 0 f₁) (λ o n′ M′ q. record { x = number-in d; same = refl; bit = from l₁ a₁ q })))))
       (λ b. (let B = bits-of-test T R t b in _then_ G p (number-after G T refl B (λ bs n₁ M₁ l₁ a₁ w₁.
-        owned G h (weaken G (number-as-bit G T bs t B w₁) (λ o n′ M′ q. record { x = _; same = zero-again (width T t) (number-in d); bit = from l₁ a₁ q }))))))
+      owned G h (weaken G (number-as-bit G T bs t B w₁) (λ o n′ M′ q. record { x = _; same = zero-again (width T t) (number-in d); bit = from l₁ a₁ q }))))))
     where
       from : {n₁ n′ x : ℕ} {M₁ M′ : Memory} {o : BitOperand} → n ≤ n₁ → Agree n M M₁ → Bit G T n₁ M₁ x o n′ M′ → Bit G T n M x o n′ M′
       from l a q = record { later = le-trans l (q .later); agree = agree-trans l a (q .agree); fixed = q .fixed }
@@ -96,16 +132,22 @@ module _ (G : Given) (T : Tables) (R : TypesRight T) (N : NeedsOf T) (n₀ : ℕ
       let ex : type-of x ≡ h .ty = eqb-true _ _ (t₂ .0) in
       let ey : type-of y ≡ h .ty = eqb-true _ _ (t₂ .1) in
       rw (← of-some (w .goes))
-      (_then_ G (ix (t₄ .1) (s .it) (s .is) n M z a) (record { go = λ p n₁ M₁ k₁.
-      _then_ G (iy (t₅ .1) (u .it) (u .is) n₁ M₁ (le-trans z (k₁ .later)) (agree-trans z a (k₁ .agree))) (record { go = λ q n₂ M₂ k₂.
-      _then_ G (condition-step h (type-of c) (t₃ .1) (ic (t₆ .1) (w .it) (w .is) n₂ M₂ (le-trans z (le-trans (k₁ .later) (k₂ .later)))
-        (agree-trans z a (agree-trans (k₁ .later) (k₁ .agree) (k₂ .agree))))) (record { go = λ b n₃ M₃ k₃. (
-      let k = k₃ .bit in
-      owned G h (rebased G (le-trans (k₁ .later) (le-trans (k₂ .later) (k .later))) (agree-trans (k₁ .later) (k₁ .agree) (agree-trans (k₂ .later) (k₂ .agree) (k .agree)))
-      (rw (ap (λ (b : Bool). pick b (u .it) (s .it)) (k₃ .same) ∙ pick-not (eqb (number-in (w .it)) 0) (s .it) (u .it)) at
-      (select-step G T R (h .ty) p q (k .fixed)
-      (denotes-later (le-trans (k₂ .later) (k .later)) (agree-trans (k₂ .later) (k₂ .agree) (k .agree)) (k₁ .denotes)) (denotes-later (k .later) (k .agree) (k₂ .denotes))
-      (rw ex at (k₁ .has)) (rw ey at (k₂ .has)))))) }) }) }))
+      (_then_ G (ix (t₄ .1) (s .it) (s .is) n M z a) (record {
+        go = λ p n₁ M₁ k₁.
+            _then_ G (iy (t₅ .1) (u .it) (u .is) n₁ M₁ (le-trans z (k₁ .later)) (agree-trans z a (k₁ .agree))) (record {
+              go = λ q n₂ M₂ k₂.
+                  _then_ G (condition-step h (type-of c) (t₃ .1) (ic (t₆ .1) (w .it) (w .is) n₂ M₂ (le-trans z (le-trans (k₁ .later) (k₂ .later)))
+                  (agree-trans z a (agree-trans (k₁ .later) (k₁ .agree) (k₂ .agree))))) (record {
+                    go = λ b n₃ M₃ k₃. (
+                        let k = k₃ .bit in
+                        owned G h (rebased G (le-trans (k₁ .later) (le-trans (k₂ .later) (k .later))) (agree-trans (k₁ .later) (k₁ .agree) (agree-trans (k₂ .later) (k₂ .agree) (k .agree)))
+                        (rw (ap (λ (b : Bool). pick b (u .it) (s .it)) (k₃ .same) ∙ pick-not (eqb (number-in (w .it)) 0) (s .it) (u .it)) at
+                        (select-step G T R (h .ty) p q (k .fixed)
+                        (denotes-later (le-trans (k₂ .later) (k .later)) (agree-trans (k₂ .later) (k₂ .agree) (k .agree)) (k₁ .denotes)) (denotes-later (k .later) (k .agree) (k₂ .denotes))
+                        (rw ex at (k₁ .has)) (rw ey at (k₂ .has))))));
+                  });
+            });
+      }))
 
   -- ------------------------------------------------------------ a pointer plus an offset
 
@@ -158,8 +200,10 @@ module _ (G : Given) (T : Tables) (R : TypesRight T) (N : NeedsOf T) (n₀ : ℕ
       let t₁ = both _ _ t in
       let s = found (eval T G M₀ e) _ v in
       let k = sym (part-type-is T (type-of e) i) ∙ type-is (part-type T (type-of e) i) (h .ty) (t₁ .0) in
-      _then_ G (ih (t₁ .1) (s .it) (s .is) n M z a) (record { go = λ u n₁ M₁ g.
-      owned G h (rebased G (g .later) (g .agree) (extract-step G T u i (g .denotes) (g .has) k (s .goes))) })
+      _then_ G (ih (t₁ .1) (s .it) (s .is) n M z a) (record {
+        go = λ u n₁ M₁ g.
+            owned G h (rebased G (g .later) (g .agree) (extract-step G T u i (g .denotes) (g .has) k (s .goes)));
+      })
 
   pub insert-case : (h : At) (e : Expr) (i : ℕ) (w : Expr) → typed T (insert-element h e i w) ≡ true
       → (typed T e ≡ true → Rightly e) → (typed T w ≡ true → Rightly w) → Rightly (insert-element h e i w)
@@ -174,13 +218,16 @@ module _ (G : Given) (T : Tables) (R : TypesRight T) (N : NeedsOf T) (n₀ : ℕ
       let k = sym (part-type-is T (h .ty) i) ∙ type-is (part-type T (h .ty) i) (type-of w) (t₂ .1) in
       let q : type-of e ≡ h .ty = eqb-true _ _ (t₂ .0) in
       rw (← x .same)
-      (_then_ G (ie (t₃ .1) (s .it) (s .is) n M z a) (record { go = λ p n₁ M₁ k₁.
-      _then_ G (iw (t₄ .1) (u .it) (u .is) n₁ M₁ (le-trans z (k₁ .later)) (agree-trans z a (k₁ .agree))) (record { go = λ r n₂ M₂ k₂.
-      owned G h (rebased G (le-trans (k₁ .later) (k₂ .later)) (agree-trans (k₁ .later) (k₁ .agree) (k₂ .agree))
-      (insert-step G T p r i (x .it) (denotes-later (k₂ .later) (k₂ .agree) (k₁ .denotes)) (rw q at (k₁ .has)) k (k₂ .has) (k₂ .typed) (k₂ .denotes) (x .is))) }) }))
+      (_then_ G (ie (t₃ .1) (s .it) (s .is) n M z a) (record {
+        go = λ p n₁ M₁ k₁.
+            _then_ G (iw (t₄ .1) (u .it) (u .is) n₁ M₁ (le-trans z (k₁ .later)) (agree-trans z a (k₁ .agree))) (record {
+              go = λ r n₂ M₂ k₂.
+                  owned G h (rebased G (le-trans (k₁ .later) (k₂ .later)) (agree-trans (k₁ .later) (k₁ .agree) (k₂ .agree))
+                  (insert-step G T p r i (x .it) (denotes-later (k₂ .later) (k₂ .agree) (k₁ .denotes)) (rw q at (k₁ .has)) k (k₂ .has) (k₂ .typed) (k₂ .denotes) (x .is)));
+            });
+      }))
 
   -- ------------------------------------------------------------ the induction
-
 
   mutual
     unfolding typed sound in-order

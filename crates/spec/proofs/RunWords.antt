@@ -100,15 +100,16 @@ more k q = rw (pow-suc 256 k) (omega arith)
 pub subtracting : Ripples sub-low sub-out Subtracting
 subtracting = record {
   low = λ k c a b t r. (
-    let e : t + b + c ≡ a + 256 * (256 ^ k * r .times) = r .sum ∙ ap (λ (x : ℕ). a + x) (more k (r .times)) in
-    let s : c ≤ 1 = r .small in
-    omega arith);
+      let e : t + b + c ≡ a + 256 * (256 ^ k * r .times) = r .sum ∙ ap (λ (x : ℕ). a + x) (more k (r .times)) in
+      let s : c ≤ 1 = r .small in
+      omega arith);
   high = λ k c a b t r. (
-    let e : t + b + c ≡ a + 256 * (256 ^ k * r .times) = r .sum ∙ ap (λ (x : ℕ). a + x) (more k (r .times)) in
-    let s : c ≤ 1 = r .small in
-    borrow-cases (λ (z : ℕ). Subtracting k z (a / 256) (b / 256) (t / 256)) (a % 256) (b % 256 + c)
-    (λ h. record { small = omega arith; times = r .times; sum = omega arith })
-    (λ h. record { small = omega arith; times = r .times; sum = omega arith })) }
+      let e : t + b + c ≡ a + 256 * (256 ^ k * r .times) = r .sum ∙ ap (λ (x : ℕ). a + x) (more k (r .times)) in
+      let s : c ≤ 1 = r .small in
+      borrow-cases (λ (z : ℕ). Subtracting k z (a / 256) (b / 256) (t / 256)) (a % 256) (b % 256 + c)
+      (λ h. record { small = omega arith; times = r .times; sum = omega arith })
+      (λ h. record { small = omega arith; times = r .times; sum = omega arith }));
+}
 
 -- and, or, xor
 abbrev pub bitwise-low : ByteBinaryOp → ℕ → ℕ → ℕ → ℕ
@@ -141,7 +142,8 @@ pub record Inverting (k c a b t : ℕ) : Type 0 where
 pub inverting : Ripples not-low same Inverting
 inverting = record {
   low = λ k c a b t r. (let e : t + a + 1 ≡ 256 * (256 ^ k * r .times) = r .sum ∙ more k (r .times) in omega arith);
-  high = λ k c a b t r. (let e : t + a + 1 ≡ 256 * (256 ^ k * r .times) = r .sum ∙ more k (r .times) in record { times = r .times; sum = omega arith }) }
+  high = λ k c a b t r. (let e : t + a + 1 ≡ 256 * (256 ^ k * r .times) = r .sum ∙ more k (r .times) in record { times = r .times; sum = omega arith });
+}
 
 -- copy
 abbrev pub copy-low : ℕ → ℕ → ℕ → ℕ

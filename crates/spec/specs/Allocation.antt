@@ -71,7 +71,8 @@ allocate-storage kind purpose regions = λ h c.
     (record {
       storages = record { id = c .storage; kind = kind; purpose = purpose; number = c .temporary; regions = regions } ∷ [];
       narrowed = [];
-      instructions = [] })
+      instructions = [];
+    })
 
 unfoldable pub allocate-bit-temporary : Purpose → Lower ℕ
 allocate-bit-temporary purpose = allocate-storage lir.bit purpose temporary-regions

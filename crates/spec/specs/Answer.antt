@@ -46,7 +46,8 @@ listing-of T v c o =
       narrowed = ascending (length (T .storages)) 0 (o .narrowed);
       instructions = o .instructions;
       value = v;
-      done = record { instructions = length (o .instructions); storages = length (o .storages); next = c .temporary } }
+      done = record { instructions = length (o .instructions); storages = length (o .storages); next = c .temporary };
+    }
 
 -- ---------------------------------------------------------------- the answer
 

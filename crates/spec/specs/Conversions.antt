@@ -8,8 +8,23 @@ use lib.ListN.{length, replicate}
 use Rattle.spec.specs.Hir.{CompareOp, ConversionOp}
 use Rattle.spec.specs.Ticket.{Tables}
 use Rattle.spec.specs.Lir.{
-  ByteStorage, ByteOperand, immediate, BitOperand, stored-bit, InstructionKind, copy-byte, compare-bytes, bit-to-byte, sign-extend,
-  Purpose, integer-to-boolean, condition, Value, value, bit-value, bytes-value,
+  ByteStorage,
+  ByteOperand,
+  immediate,
+  BitOperand,
+  stored-bit,
+  InstructionKind,
+  copy-byte,
+  compare-bytes,
+  bit-to-byte,
+  sign-extend,
+  Purpose,
+  integer-to-boolean,
+  condition,
+  Value,
+  value,
+  bit-value,
+  bytes-value,
 }
 use Rattle.spec.specs.Lir as lir
 use Rattle.spec.specs.Monad.{Lower, _>>=_, _>>_, pure, refuse, emit, emits, or-refuse, require}

@@ -12,9 +12,29 @@ use Rattle.spec.specs.Readable.{line-sum, root}
 use Rattle.spec.specs.Read.{read-ticket}
 use Rattle.spec.specs.Read as reading
 use Rattle.spec.specs.Lir.{
-  ByteStorage, StorageKind, Storage, InstructionKind, Instruction, Listing,
-  copy-byte, not-byte, byte-binary, add, subtract, rotate, address-of, function-address, shift-bytes, compare-bytes, select-byte, select-bit,
-  bit-to-byte, byte-to-bit, sign-extend, integer-unary-bytes, integer-binary-bytes,
+  ByteStorage,
+  StorageKind,
+  Storage,
+  InstructionKind,
+  Instruction,
+  Listing,
+  copy-byte,
+  not-byte,
+  byte-binary,
+  add,
+  subtract,
+  rotate,
+  address-of,
+  function-address,
+  shift-bytes,
+  compare-bytes,
+  select-byte,
+  select-bit,
+  bit-to-byte,
+  byte-to-bit,
+  sign-extend,
+  integer-unary-bytes,
+  integer-binary-bytes,
 }
 use Rattle.spec.specs.Lir as lir
 use Rattle.spec.specs.ReadBack.{read-listing}

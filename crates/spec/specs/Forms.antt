@@ -7,10 +7,43 @@ use mathlib.Core.Option.{Option, none, some}
 use Rattle.spec.specs.Text.{bytes, same, split, number, comma}
 use Rattle.spec.specs.Limits.{greatest-16, greatest-32, greatest-64, all-regions}
 use Rattle.spec.specs.Ticket.{
-  TypeWord, tUnit, tBool, tBits, tFloat, tPointer, tArray, tStruct, tTuple, tOpaque,
-  PlaceWord, pVariable, pStatic, pField, pElement, pOffset,
-  NodeWord, nBool, nInt, nF32, nF64, nNull, nStaticAddress, nFunction, nRead, nUnary, nBinary, nFunary, nFbinary,
-  nCompare, nConvert, nSelect, nAddress, nOffset, nAggregate, nExtract, nInsert,
+  TypeWord,
+  tUnit,
+  tBool,
+  tBits,
+  tFloat,
+  tPointer,
+  tArray,
+  tStruct,
+  tTuple,
+  tOpaque,
+  PlaceWord,
+  pVariable,
+  pStatic,
+  pField,
+  pElement,
+  pOffset,
+  NodeWord,
+  nBool,
+  nInt,
+  nF32,
+  nF64,
+  nNull,
+  nStaticAddress,
+  nFunction,
+  nRead,
+  nUnary,
+  nBinary,
+  nFunary,
+  nFbinary,
+  nCompare,
+  nConvert,
+  nSelect,
+  nAddress,
+  nOffset,
+  nAggregate,
+  nExtract,
+  nInsert,
 }
 
 -- what a field holds: a number in a range, a float's width, or an earlier line's number (document 01's T, TYPE, STORAGE, P and N)
@@ -18,10 +51,10 @@ pub data Field : Type 0 where
   between : ℕ → ℕ → Field
   float-width type-part type storage place node : Field
 
-abbrev up-to : ℕ → Field
+abbrev pub up-to : ℕ → Field
 up-to n = between 0 n
 
-abbrev any : Field
+abbrev pub any : Field
 any = up-to greatest-64
 
 -- a word, what it stands for, and its fields: some in order, then any number of one class
@@ -31,10 +64,10 @@ pub record Rule (A : Type 0) : Type 0 where
   pub fields : List Field
   pub rest : Option Field
 
-abbrev rule : {A : Type 0} → String → A → List Field → Rule A
+abbrev pub rule : {A : Type 0} → String → A → List Field → Rule A
 rule w a fs = record { word = w; make = a; fields = fs; rest = none }
 
-abbrev many : {A : Type 0} → String → A → Field → Rule A
+abbrev pub many : {A : Type 0} → String → A → Field → Rule A
 many w a f = record { word = w; make = a; fields = []; rest = some f }
 
 abbrev pub type-rules : List (Rule TypeWord)
@@ -114,7 +147,7 @@ pub record Line : Type 0 where
   pub head : Head
   pub args : List Arg
 
-abbrev cons-arg : Field → Option ℕ → Option (List Arg) → Option (List Arg)
+abbrev pub cons-arg : Field → Option ℕ → Option (List Arg) → Option (List Arg)
 cons-arg f none xa = none
 cons-arg f (some x) none = none
 cons-arg f (some x) (some xa) = some (record { class = f; value = x } ∷ xa)
@@ -130,11 +163,11 @@ args-of [] r ws = rest-args r ws
 args-of (f ∷ fs) r [] = none
 args-of (f ∷ fs) r (w ∷ ws) = cons-arg f (number w) (args-of fs r ws)
 
-abbrev line-with : Head → Option (List Arg) → Option Line
+abbrev pub line-with : Head → Option (List Arg) → Option Line
 line-with h none = none
 line-with h (some xa) = some (record { head = h; args = xa })
 
-abbrev by-rule : {A : Type 0} → (A → Head) → List Field → Option (Rule A) → List (List ℕ) → Option Line
+abbrev pub by-rule : {A : Type 0} → (A → Head) → List Field → Option (Rule A) → List (List ℕ) → Option Line
 by-rule h before none ws = none
 by-rule h before (some r) ws = line-with (h (r .make)) (args-of (prepended before (r .fields)) (r .rest) ws)
   where
@@ -170,11 +203,11 @@ form-of kG ws = line-with g-line (args-of placed-fields none ws)
 form-of kP ws = place-form ws
 form-of kN ws = node-form ws
 
-abbrev form-by : Option (Rule Kind) → List (List ℕ) → Option Line
+abbrev pub form-by : Option (Rule Kind) → List (List ℕ) → Option Line
 form-by none ws = none
 form-by (some r) ws = form-of (r .make) ws
 
-abbrev form-of-fields : List (List ℕ) → Option Line
+abbrev pub form-of-fields : List (List ℕ) → Option Line
 form-of-fields [] = none
 form-of-fields (w ∷ ws) = form-by (find kind-rules w) ws
 

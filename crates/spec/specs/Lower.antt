@@ -5,9 +5,32 @@ use lib.Dec.{leb}
 use lib.ListN.{length}
 use Rattle.spec.specs.Limits.{constant-limit}
 use Rattle.spec.specs.Hir.{
-  At, Expr, boolean, integer, float32, float64, null-pointer, static-address, function-address, read, integer-unary, integer-binary,
-  float-unary, float-binary, compare, convert, select, address-of, pointer-offset, aggregate, extract-element, insert-element,
-  Exprs, no-exprs, _∷ᵉ_, Place,
+  At,
+  Expr,
+  boolean,
+  integer,
+  float32,
+  float64,
+  null-pointer,
+  static-address,
+  function-address,
+  read,
+  integer-unary,
+  integer-binary,
+  float-unary,
+  float-binary,
+  compare,
+  convert,
+  select,
+  address-of,
+  pointer-offset,
+  aggregate,
+  extract-element,
+  insert-element,
+  Exprs,
+  no-exprs,
+  _∷ᵉ_,
+  Place,
 }
 use Rattle.spec.specs.Ticket.{Tables, nowhere}
 use Rattle.spec.specs.Readable.{root}

@@ -7,9 +7,33 @@ use lib.Dec.{eqb, leb, ltb}
 use lib.ListN.{take}
 use Rattle.spec.specs.Limits.{offset-limit}
 use Rattle.spec.specs.Hir.{
-  Expr, boolean, integer, float32, float64, null-pointer, static-address, function-address, read, integer-unary, integer-binary,
-  float-unary, float-binary, compare, convert, select, address-of, pointer-offset, aggregate, extract-element, insert-element,
-  Place, variable, static, field, element, byte-offset,
+  Expr,
+  boolean,
+  integer,
+  float32,
+  float64,
+  null-pointer,
+  static-address,
+  function-address,
+  read,
+  integer-unary,
+  integer-binary,
+  float-unary,
+  float-binary,
+  compare,
+  convert,
+  select,
+  address-of,
+  pointer-offset,
+  aggregate,
+  extract-element,
+  insert-element,
+  Place,
+  variable,
+  static,
+  field,
+  element,
+  byte-offset,
 }
 use Rattle.spec.specs.Ticket.{TypeWord, tUnit, tBool, tBits, tFloat, tPointer, tArray, tStruct, tTuple, tOpaque, PlacedLine, Tables, typeAt, arg, sum}
 use Rattle.spec.specs.Monad.{Lower, _>>=_, _>>_, pure, or-refuse, require}
@@ -111,7 +135,8 @@ module _ (T : Tables) where
         word = (typeAt T (p .type)) .word;
         args = (typeAt T (p .type)) .args;
         size = type-size T (p .type);
-        is-bit = is-one (p .bit) }
+        is-bit = is-one (p .bit);
+      }
 
   unfoldable pub part-of : Base → Part → Base
   part-of b f =
@@ -121,7 +146,8 @@ module _ (T : Tables) where
         word = (typeAt T (f .ty)) .word;
         args = (typeAt T (f .ty)) .args;
         size = type-size T (f .ty);
-        is-bit = false }
+        is-bit = false;
+      }
 
   unfoldable pub opaque-rest : Base → ℕ → Base
   opaque-rest b n =

@@ -8,16 +8,67 @@ use lib.Dec.{eqb, leb, ltb}
 use lib.ListN.{length, getD, set}
 use Rattle.spec.specs.Text.{same, split, line-feed}
 use Rattle.spec.specs.Limits.{
-  text-limit, type-lines, storage-lines, variable-lines, static-lines, place-lines, node-lines,
-  type-size-limit, type-weight-limit, depth-limit, type-depth-limit, size-sum-limit, weight-sum-limit,
+  text-limit,
+  type-lines,
+  storage-lines,
+  variable-lines,
+  static-lines,
+  place-lines,
+  node-lines,
+  type-size-limit,
+  type-weight-limit,
+  depth-limit,
+  type-depth-limit,
+  size-sum-limit,
+  weight-sum-limit,
 }
 use Rattle.spec.specs.Ticket.{
-  TypeWord, tUnit, tBool, tBits, tFloat, tPointer, tArray, tStruct, tTuple, tOpaque,
-  PlaceWord, NodeWord, TypeLine, StorageLine, PlacedLine, PlaceLine, NodeLine, Tables, typeAt, placeLineAt, nodeAt, arg, type-size-by, weight-by,
+  TypeWord,
+  tUnit,
+  tBool,
+  tBits,
+  tFloat,
+  tPointer,
+  tArray,
+  tStruct,
+  tTuple,
+  tOpaque,
+  PlaceWord,
+  NodeWord,
+  TypeLine,
+  StorageLine,
+  PlacedLine,
+  PlaceLine,
+  NodeLine,
+  Tables,
+  typeAt,
+  placeLineAt,
+  nodeAt,
+  arg,
+  type-size-by,
+  weight-by,
 }
 use Rattle.spec.specs.Forms.{
-  Field, between, float-width, type-part, type, storage, place, node,
-  Arg, Head, f-line, s-line, v-line, g-line, t-line, p-line, n-line, Line, lineOf, values,
+  Field,
+  between,
+  float-width,
+  type-part,
+  type,
+  storage,
+  place,
+  node,
+  Arg,
+  Head,
+  f-line,
+  s-line,
+  v-line,
+  g-line,
+  t-line,
+  p-line,
+  n-line,
+  Line,
+  lineOf,
+  values,
 }
 
 -- ---------------------------------------------------------------- the state of reading
@@ -36,14 +87,14 @@ pub record Reading : Type 0 where
   pub sizes : ℕ
   pub weights : ℕ
 
-abbrev all : (Arg → Bool) → List Arg → Bool
+abbrev pub all : (Arg → Bool) → List Arg → Bool
 all p [] = true
 all p (a ∷ xa) = p a && all p xa
 
 -- ---------------------------------------------------------------- 2: the order of kinds
 
 -- places and nodes are mixed
-abbrev rank : Head → ℕ
+abbrev pub rank : Head → ℕ
 rank f-line = 0
 rank (t-line w) = 1
 rank s-line = 2
@@ -53,13 +104,13 @@ rank (p-line w) = 5
 rank (n-line w) = 5
 
 -- the stage is 0 at the start, where only `f` may stand, and then one more than the last line's rank
-abbrev in-order : ℕ → ℕ → Bool
+abbrev pub in-order : ℕ → ℕ → Bool
 in-order zero r = eqb r 0
 in-order (suc last) r = leb 1 r && leb last r
 
 -- ---------------------------------------------------------------- 8: lines of a kind
 
-abbrev few-enough : Tables → Head → Bool
+abbrev pub few-enough : Tables → Head → Bool
 few-enough T f-line = true
 few-enough T (t-line w) = ltb (length (T .types)) type-lines
 few-enough T s-line = ltb (length (T .storages)) storage-lines
@@ -70,7 +121,7 @@ few-enough T (n-line w) = ltb (length (T .nodes)) node-lines
 
 -- ---------------------------------------------------------------- 3: ranges
 
-abbrev in-range-of : Field → ℕ → Bool
+abbrev pub in-range-of : Field → ℕ → Bool
 in-range-of (between least greatest) x = leb least x && leb x greatest
 in-range-of float-width x = eqb x 32 || eqb x 64
 in-range-of type-part x = true
@@ -79,17 +130,17 @@ in-range-of storage x = true
 in-range-of place x = true
 in-range-of node x = true
 
-abbrev in-range : Arg → Bool
+abbrev pub in-range : Arg → Bool
 in-range a = in-range-of (a .class) (a .value)
 
 -- a storage's LENGTH: from 1 for kind 2, else 0; BIT 1 only with TYPE 0
-abbrev length-fits : ℕ → ℕ → Bool
+abbrev pub length-fits : ℕ → ℕ → Bool
 length-fits kind len = elim (eqb kind 2) [ true ↦ leb 1 len | false ↦ eqb len 0 ]
 
-abbrev bit-fits : ℕ → ℕ → Bool
+abbrev pub bit-fits : ℕ → ℕ → Bool
 bit-fits ty bit = eqb bit 0 || eqb ty 0
 
-abbrev fields-fit : Head → List ℕ → Bool
+abbrev pub fields-fit : Head → List ℕ → Bool
 fields-fit f-line xs = true
 fields-fit (t-line w) xs = true
 fields-fit s-line xs = length-fits (arg xs 0) (arg xs 1)
@@ -100,7 +151,7 @@ fields-fit (n-line w) xs = true
 
 -- ---------------------------------------------------------------- 4: earlier lines
 
-abbrev earlier-of : Tables → Field → ℕ → Bool
+abbrev pub earlier-of : Tables → Field → ℕ → Bool
 earlier-of T (between least greatest) x = true
 earlier-of T float-width x = true
 earlier-of T type-part x = ltb x (length (T .types))
@@ -109,12 +160,12 @@ earlier-of T storage x = ltb x (length (T .storages))
 earlier-of T place x = ltb x (length (T .places))
 earlier-of T node x = ltb x (length (T .nodes))
 
-abbrev earlier : Tables → Arg → Bool
+abbrev pub earlier : Tables → Arg → Bool
 earlier T a = earlier-of T (a .class) (a .value)
 
 -- ---------------------------------------------------------------- 5: types alike, the first two types, fewer than two types
 
-abbrev type-number : TypeWord → ℕ
+abbrev pub type-number : TypeWord → ℕ
 type-number tUnit = 0
 type-number tBool = 1
 type-number tBits = 2
@@ -130,15 +181,15 @@ alike w xs [] = false
 alike w xs (t ∷ ts) = (eqb (type-number w) (type-number (t .word)) && same xs (t .args)) || alike w xs ts
 
 -- type 0 is bool, type 1 pointer
-abbrev right-start : ℕ → TypeWord → Bool
+abbrev pub right-start : ℕ → TypeWord → Bool
 right-start zero w = eqb (type-number w) (type-number tBool)
 right-start (suc zero) w = eqb (type-number w) (type-number tPointer)
 right-start (suc (suc n)) w = true
 
-abbrev two-types : Tables → Bool
+abbrev pub two-types : Tables → Bool
 two-types T = leb 2 (length (T .types))
 
-abbrev types-right : Tables → Head → List ℕ → Bool
+abbrev pub types-right : Tables → Head → List ℕ → Bool
 types-right T f-line xs = true
 types-right T (t-line w) xs = not (alike w xs (T .types)) && right-start (length (T .types)) w
 types-right T s-line xs = two-types T
@@ -155,7 +206,7 @@ size-of T w xs = type-size-by (λ t. (typeAt T t) .size) w xs
 abbrev pub weight-of : Tables → TypeWord → List ℕ → ℕ
 weight-of T w xs = weight-by (λ t. (typeAt T t) .weight) w xs
 
-abbrev small-enough : Tables → Head → List ℕ → Bool
+abbrev pub small-enough : Tables → Head → List ℕ → Bool
 small-enough T f-line xs = true
 small-enough T (t-line w) xs = leb (size-of T w xs) type-size-limit && leb (weight-of T w xs) type-weight-limit
 small-enough T s-line xs = true
@@ -166,7 +217,7 @@ small-enough T (n-line w) xs = true
 
 -- ---------------------------------------------------------------- 7: no line is referred to twice
 
-abbrev used-of : Used → Field → ℕ → Bool
+abbrev pub used-of : Used → Field → ℕ → Bool
 used-of U (between least greatest) x = false
 used-of U float-width x = false
 used-of U type-part x = false
@@ -175,7 +226,7 @@ used-of U storage x = false
 used-of U place x = getD (U .places) x false
 used-of U node x = getD (U .nodes) x false
 
-abbrev mark-of : Used → Field → ℕ → Used
+abbrev pub mark-of : Used → Field → ℕ → Used
 mark-of U (between least greatest) x = U
 mark-of U float-width x = U
 mark-of U type-part x = U
@@ -196,7 +247,7 @@ mark (a ∷ xa) U = mark xa (mark-of U (a .class) (a .value))
 -- ---------------------------------------------------------------- 9: depth
 
 -- a node's TYPE does not count: types have a depth among themselves
-abbrev depth-of-field : Tables → Field → ℕ → ℕ
+abbrev pub depth-of-field : Tables → Field → ℕ → ℕ
 depth-of-field T (between least greatest) x = 0
 depth-of-field T float-width x = 0
 depth-of-field T type-part x = (typeAt T x) .depth
@@ -205,14 +256,14 @@ depth-of-field T storage x = 0
 depth-of-field T place x = (placeLineAt T x) .depth
 depth-of-field T node x = (nodeAt T x) .depth
 
-abbrev deepest : Tables → List Arg → ℕ
+abbrev pub deepest : Tables → List Arg → ℕ
 deepest T [] = 0
 deepest T (a ∷ xa) = max (depth-of-field T (a .class) (a .value)) (deepest T xa)
 
 unfoldable pub depth-of : Tables → List Arg → ℕ
 depth-of T xa = suc (deepest T xa)
 
-abbrev depth-allowed : Head → ℕ
+abbrev pub depth-allowed : Head → ℕ
 depth-allowed f-line = depth-limit
 depth-allowed (t-line w) = type-depth-limit
 depth-allowed s-line = depth-limit
@@ -224,7 +275,7 @@ depth-allowed (n-line w) = depth-limit
 -- ---------------------------------------------------------------- 10: sums over nodes
 
 -- what a line adds to the sums
-abbrev own-size : Tables → Head → List ℕ → ℕ
+abbrev pub own-size : Tables → Head → List ℕ → ℕ
 own-size T f-line xs = 0
 own-size T (t-line w) xs = 0
 own-size T s-line xs = 0
@@ -233,7 +284,7 @@ own-size T g-line xs = 0
 own-size T (p-line w) xs = 0
 own-size T (n-line w) xs = (typeAt T (arg xs 0)) .size
 
-abbrev own-weight : Tables → Head → List ℕ → ℕ
+abbrev pub own-weight : Tables → Head → List ℕ → ℕ
 own-weight T f-line xs = 0
 own-weight T (t-line w) xs = 0
 own-weight T s-line xs = 0
@@ -242,7 +293,7 @@ own-weight T g-line xs = 0
 own-weight T (p-line w) xs = 0
 own-weight T (n-line w) xs = (typeAt T (arg xs 0)) .weight
 
-abbrev sums-fit : Reading → Head → List ℕ → Bool
+abbrev pub sums-fit : Reading → Head → List ℕ → Bool
 sums-fit R h xs =
     leb (R .sizes + own-size (R .tables) h xs) size-sum-limit && leb (R .weights + own-weight (R .tables) h xs) weight-sum-limit
 
@@ -252,7 +303,7 @@ pub record Test : Type 0 where
   pub refusal : ℕ
   pub passes : Bool
 
-abbrev test : ℕ → Bool → Test
+abbrev pub test : ℕ → Bool → Test
 test n b = record { refusal = n; passes = b }
 
 -- the first test that fails refuses
@@ -276,59 +327,108 @@ refusal-of R l =
 
 -- ---------------------------------------------------------------- what an accepted line adds
 
-abbrev placed-line : List ℕ → PlacedLine
+abbrev pub placed-line : List ℕ → PlacedLine
 placed-line xs = record { storage = arg xs 0; offset = arg xs 1; type = arg xs 2; bit = arg xs 3 }
 
-abbrev storage-line : List ℕ → StorageLine
+abbrev pub storage-line : List ℕ → StorageLine
 storage-line xs = record { kind = arg xs 0; len = arg xs 1; owner = arg xs 2; regions = arg xs 3 }
 
-abbrev type-line : Tables → TypeWord → List Arg → TypeLine
+abbrev pub type-line : Tables → TypeWord → List Arg → TypeLine
 type-line T w xa =
     record { word = w; args = values xa; size = size-of T w (values xa); weight = weight-of T w (values xa); depth = depth-of T xa }
 
-abbrev place-line : Tables → ℕ → PlaceWord → List Arg → PlaceLine
+abbrev pub place-line : Tables → ℕ → PlaceWord → List Arg → PlaceLine
 place-line T n w xa = record { word = w; args = values xa; line = n; depth = depth-of T xa }
 
-abbrev behind-type : List ℕ → List ℕ
+abbrev pub behind-type : List ℕ → List ℕ
 behind-type [] = []
 behind-type (ty ∷ xs) = xs
 
-abbrev node-line : Tables → ℕ → NodeWord → List Arg → NodeLine
+abbrev pub node-line : Tables → ℕ → NodeWord → List Arg → NodeLine
 node-line T n w xa = record { type = arg (values xa) 0; word = w; args = behind-type (values xa); line = n; depth = depth-of T xa }
 
 -- T with line n
 unfoldable pub add-line : Tables → ℕ → Head → List Arg → Tables
 add-line T n f-line xa =
     record {
-      function = arg (values xa) 0; next = arg (values xa) 1; types = T .types; storages = T .storages;
-      variables = T .variables; statics = T .statics; places = T .places; nodes = T .nodes }
+      function = arg (values xa) 0;
+      next = arg (values xa) 1;
+      types = T .types;
+      storages = T .storages;
+      variables = T .variables;
+      statics = T .statics;
+      places = T .places;
+      nodes = T .nodes;
+    }
 add-line T n (t-line w) xa =
     record {
-      function = T .function; next = T .next; types = T .types ++ (type-line T w xa ∷ []); storages = T .storages;
-      variables = T .variables; statics = T .statics; places = T .places; nodes = T .nodes }
+      function = T .function;
+      next = T .next;
+      types = T .types ++ (type-line T w xa ∷ []);
+      storages = T .storages;
+      variables = T .variables;
+      statics = T .statics;
+      places = T .places;
+      nodes = T .nodes;
+    }
 add-line T n s-line xa =
     record {
-      function = T .function; next = T .next; types = T .types; storages = T .storages ++ (storage-line (values xa) ∷ []);
-      variables = T .variables; statics = T .statics; places = T .places; nodes = T .nodes }
+      function = T .function;
+      next = T .next;
+      types = T .types;
+      storages = T .storages ++ (storage-line (values xa) ∷ []);
+      variables = T .variables;
+      statics = T .statics;
+      places = T .places;
+      nodes = T .nodes;
+    }
 add-line T n v-line xa =
     record {
-      function = T .function; next = T .next; types = T .types; storages = T .storages;
-      variables = T .variables ++ (placed-line (values xa) ∷ []); statics = T .statics; places = T .places; nodes = T .nodes }
+      function = T .function;
+      next = T .next;
+      types = T .types;
+      storages = T .storages;
+      variables = T .variables ++ (placed-line (values xa) ∷ []);
+      statics = T .statics;
+      places = T .places;
+      nodes = T .nodes;
+    }
 add-line T n g-line xa =
     record {
-      function = T .function; next = T .next; types = T .types; storages = T .storages;
-      variables = T .variables; statics = T .statics ++ (placed-line (values xa) ∷ []); places = T .places; nodes = T .nodes }
+      function = T .function;
+      next = T .next;
+      types = T .types;
+      storages = T .storages;
+      variables = T .variables;
+      statics = T .statics ++ (placed-line (values xa) ∷ []);
+      places = T .places;
+      nodes = T .nodes;
+    }
 add-line T n (p-line w) xa =
     record {
-      function = T .function; next = T .next; types = T .types; storages = T .storages;
-      variables = T .variables; statics = T .statics; places = T .places ++ (place-line T n w xa ∷ []); nodes = T .nodes }
+      function = T .function;
+      next = T .next;
+      types = T .types;
+      storages = T .storages;
+      variables = T .variables;
+      statics = T .statics;
+      places = T .places ++ (place-line T n w xa ∷ []);
+      nodes = T .nodes;
+    }
 add-line T n (n-line w) xa =
     record {
-      function = T .function; next = T .next; types = T .types; storages = T .storages;
-      variables = T .variables; statics = T .statics; places = T .places; nodes = T .nodes ++ (node-line T n w xa ∷ []) }
+      function = T .function;
+      next = T .next;
+      types = T .types;
+      storages = T .storages;
+      variables = T .variables;
+      statics = T .statics;
+      places = T .places;
+      nodes = T .nodes ++ (node-line T n w xa ∷ []);
+    }
 
 -- a new place or node, not yet referred to
-abbrev new-used : Head → Used → Used
+abbrev pub new-used : Head → Used → Used
 new-used f-line U = U
 new-used (t-line w) U = U
 new-used s-line U = U
@@ -354,7 +454,7 @@ pub data Step : Type 0 where
   stop : ℕ → Step
   go : Reading → Step
 
-abbrev step-by : Reading → Line → Option ℕ → Step
+abbrev pub step-by : Reading → Line → Option ℕ → Step
 step-by R l none = go (add R l)
 step-by R l (some n) = stop n
 
@@ -386,7 +486,7 @@ least (x ∷ xs) = elim (least xs) [ none ↦ some x | some y ↦ some (min x y)
 unfoldable pub left-over : Reading → Option ℕ
 left-over R = least (left-places (R .tables .places) (R .used .places) ++ left-nodes (R .tables .nodes) (R .used .nodes))
 
-abbrev end-by : Reading → Option ℕ → Bool → Read
+abbrev pub end-by : Reading → Option ℕ → Bool → Read
 end-by R (some n) b = refused 7 n
 end-by R none true = refused 2 (suc (R .lines))
 end-by R none false = accepted (R .tables)
@@ -396,7 +496,7 @@ unfoldable pub at-end : Reading → Read
 at-end R = end-by R (left-over R) (eqb (length (R .tables .nodes)) 0)
 
 -- what stands behind the last line feed is no line
-abbrev at-tail : Reading → List ℕ → Read
+abbrev pub at-tail : Reading → List ℕ → Read
 at-tail R [] = at-end R
 at-tail R (x ∷ xs) = refused 2 (suc (R .lines))
 

@@ -27,17 +27,20 @@ placed s o ty b = record { storage = s; offset = o; type = ty; bit = b }
 -- a is at byte 0 of storage 0, b at byte 8; storage 1 is a bit
 abbrev pub T : Tables
 T = record {
-  function = 0; next = 0;
+  function = 0;
+  next = 0;
   types =
-    record { word = tBool; args = []; size = 1; weight = 1; depth = 1 } ∷ record { word = tPointer; args = []; size = 2; weight = 1; depth = 1 } ∷
-    plain-type 8 1 ∷ plain-type 9 2 ∷ plain-type 16 2 ∷ plain-type 32 4 ∷ plain-type 64 8 ∷ plain-type 1 1 ∷
-    record { word = tArray; args = 2 ∷ 3 ∷ []; size = 3; weight = 4; depth = 2 } ∷ [];
+      record { word = tBool; args = []; size = 1; weight = 1; depth = 1 } ∷ record { word = tPointer; args = []; size = 2; weight = 1; depth = 1 } ∷
+      plain-type 8 1 ∷ plain-type 9 2 ∷ plain-type 16 2 ∷ plain-type 32 4 ∷ plain-type 64 8 ∷ plain-type 1 1 ∷
+      record { word = tArray; args = 2 ∷ 3 ∷ []; size = 3; weight = 4; depth = 2 } ∷ [];
   storages = record { kind = 2; len = 16; owner = 1; regions = 36 } ∷ record { kind = 0; len = 0; owner = 1; regions = 36 } ∷ [];
   variables =
-    placed 0 0 2 0 ∷ placed 0 8 2 0 ∷ placed 0 0 3 0 ∷ placed 0 8 3 0 ∷ placed 0 0 4 0 ∷ placed 0 8 4 0 ∷ placed 0 0 5 0 ∷ placed 0 8 5 0 ∷
-    placed 0 0 6 0 ∷ placed 0 8 6 0 ∷ placed 1 0 0 1 ∷ placed 0 0 0 0 ∷ placed 0 0 8 0 ∷ placed 0 0 1 0 ∷ [];
-  statics = []; places = [];
-  nodes = record { type = 0; word = nBool; args = 1 ∷ []; line = 27; depth = 1 } ∷ [] }
+      placed 0 0 2 0 ∷ placed 0 8 2 0 ∷ placed 0 0 3 0 ∷ placed 0 8 3 0 ∷ placed 0 0 4 0 ∷ placed 0 8 4 0 ∷ placed 0 0 5 0 ∷ placed 0 8 5 0 ∷
+      placed 0 0 6 0 ∷ placed 0 8 6 0 ∷ placed 1 0 0 1 ∷ placed 0 0 0 0 ∷ placed 0 0 8 0 ∷ placed 0 0 1 0 ∷ [];
+  statics = [];
+  places = [];
+  nodes = record { type = 0; word = nBool; args = 1 ∷ []; line = 27; depth = 1 } ∷ [];
+}
 
 -- the ticket that they are read from
 abbrev pub ticket : List String
@@ -234,4 +237,6 @@ abbrev pub elements : List Case
 elements =
     record {
       expr = integer-binary (of-type 2) hir.add (read (of-type 2) (element (variable 12) (int u8 2))) (read (of-type 2) (element (variable 12) (int u8 0)));
-      memory = memory 787201 0; result = number 1 13 } ∷ []
+      memory = memory 787201 0;
+      result = number 1 13;
+    } ∷ []

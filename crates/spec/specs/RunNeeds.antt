@@ -6,8 +6,30 @@ use mathlib.Core.Path.{_≡_}
 use lib.Dec.{leb}
 use lib.ListN.{length}
 use Rattle.spec.specs.Hir.{
-  Expr, boolean, integer, float32, float64, null-pointer, static-address, function-address, read, integer-unary, integer-binary,
-  float-unary, float-binary, compare, convert, select, address-of, pointer-offset, aggregate, extract-element, insert-element, Exprs, no-exprs, _∷ᵉ_,
+  Expr,
+  boolean,
+  integer,
+  float32,
+  float64,
+  null-pointer,
+  static-address,
+  function-address,
+  read,
+  integer-unary,
+  integer-binary,
+  float-unary,
+  float-binary,
+  compare,
+  convert,
+  select,
+  address-of,
+  pointer-offset,
+  aggregate,
+  extract-element,
+  insert-element,
+  Exprs,
+  no-exprs,
+  _∷ᵉ_,
 }
 use Rattle.spec.specs.Ticket.{TypeWord, tUnit, tBool, tBits, tFloat, tPointer, tArray, tStruct, tTuple, tOpaque, PlacedLine, Tables, typeAt}
 use Rattle.spec.specs.Operands.{nth}

@@ -8,8 +8,22 @@ use lib.ListN.{length, getD, take}
 use Rattle.spec.specs.Hir.{Place}
 use Rattle.spec.specs.Ticket.{Tables, storageAt}
 use Rattle.spec.specs.Lir.{
-  ByteStorage, BitOperand, ValueOperand, bit-operand, byte-operand, ValueStorage, bit-storage, byte-storage,
-  InstructionKind, address-of, function-address, select-byte, select-bit, Value, flatten-value-operands, pointer-carry,
+  ByteStorage,
+  BitOperand,
+  ValueOperand,
+  bit-operand,
+  byte-operand,
+  ValueStorage,
+  bit-storage,
+  byte-storage,
+  InstructionKind,
+  address-of,
+  function-address,
+  select-byte,
+  select-bit,
+  Value,
+  flatten-value-operands,
+  pointer-carry,
 }
 use Rattle.spec.specs.Monad.{Lower, _>>=_, _>>_, pure, narrow, emit, emits, or-refuse, require}
 use Rattle.spec.specs.Operands.{nth, value-type, value-bytes, resize}

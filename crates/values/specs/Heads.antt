@@ -7,8 +7,24 @@ use native.Mathlib.Omega.{arith}
 use lib.ListN.{length, take, drop, length-append, length-drop}
 use lib.Seq.{drop-at, take-at}
 use Rattle.spec.specs.Lir.{
-  ByteOperand, BitOperand, ValueOperand, bit-operand, byte-operand, Value, value, Repr, unit, bit-value, bytes-value, aggregate, Values, no-values, _∷ᵛ_,
-  flatten-value-operands, flatten-repr, flatten-values,
+  ByteOperand,
+  BitOperand,
+  ValueOperand,
+  bit-operand,
+  byte-operand,
+  Value,
+  value,
+  Repr,
+  unit,
+  bit-value,
+  bytes-value,
+  aggregate,
+  Values,
+  no-values,
+  _∷ᵛ_,
+  flatten-value-operands,
+  flatten-repr,
+  flatten-values,
 }
 use Rattle.spec.specs.Operands.{nth-value, value-repr, value-type, repr-bytes, repr-bit}
 use Rattle.lir.specs.Abstract.{bit-operand-of, bytes-of, Small}

@@ -17,8 +17,24 @@ use Rattle.values.specs.declared.BitLowered.{BitLowered}
 use Rattle.values.specs.declared.Listed.{Listed}
 use Rattle.values.specs.Heads.{Head, root, parts-of, preorders, count, head-of, Sound-value, All-sound, sound-append, map-append, length-heads}
 use Rattle.values.specs.Left.{
-  Bufs, bufs, counters-in, at-top, marked, marked-append, value-words, values-words, words-append, length-value, Left,
-  case-value, case-bit, case-list, MeetsValue, MeetsBit, MeetsList, DoneValue,
+  Bufs,
+  bufs,
+  counters-in,
+  at-top,
+  marked,
+  marked-append,
+  value-words,
+  values-words,
+  words-append,
+  length-value,
+  Left,
+  case-value,
+  case-bit,
+  case-list,
+  MeetsValue,
+  MeetsBit,
+  MeetsList,
+  DoneValue,
 }
 
 pub prepend-prepend : {A : Type 0} (o p : Out) (x : Outcome A) → prepend o (prepend p x) ≡ prepend (_⊕_ o p) x
@@ -43,7 +59,8 @@ left-none b s p =
       sound = tt;
       topped = omega arith;
       stacked = sym (append-nil (take (s .top) (b .stack)));
-      long = refl }
+      long = refl;
+    }
 
 -- what stood on the value stack stands there still
 pub left-kept : {b : Bufs} {s : State} {hs : List Head} {cs : monad.Counters} {o : Out} {b1 : Bufs} {s1 : State}
@@ -66,7 +83,8 @@ left-then {b} {s} {hs} {cs} {o} {b1} {s1} {ks} {ds} {p} {b2} {s2} x y =
       sound = sound-append (x .parts) (y .parts) (x .sound) (y .sound);
       topped = rw (length-append (x .parts) (y .parts)) (omega arith);
       stacked = y .stacked ∙ rw (x .stacked, words-append (x .parts) (y .parts), append-assoc);
-      long = y .long ∙ x .long }
+      long = y .long ∙ x .long;
+    }
 
 -- a step after one that is done with what it left on the stack
 pub left-drop : {b : Bufs} {s : State} {hs : List Head} {cs : monad.Counters} {o : Out} {b1 : Bufs} {s1 : State} {ks : List Head} {ds : monad.Counters} {p : Out} {b2 : Bufs} {s2 : State}
@@ -81,7 +99,8 @@ left-drop {b} {s} {hs} {cs} {o} {b1} {s1} {ks} {ds} {p} {b2} {s2} x h y =
       sound = y .sound;
       topped = y .topped;
       stacked = y .stacked ∙ rw (left-kept x h);
-      long = y .long ∙ x .long }
+      long = y .long ∙ x .long;
+    }
 
 drop-case : {b : Bufs} {s : State} {hs : List Head} {cs : monad.Counters} {o : Out} {b1 : Bufs} {s1 : State}
     → Left b s hs cs o b1 s1 → s .top ≤ length (b .stack) → (x : Outcome Value) (b2 : Bufs) (r : Lowered) → case-value b1 (at-top s1 (s .top)) x b2 r → case-value b s (prepend o x) b2 r
@@ -140,7 +159,8 @@ left-under {b} {s} {hs} {cs} {o} {b1} {s1} v g a h =
       sound = (g, a .sound);
       topped = omega arith;
       stacked = rw (a .topped) (under (b .stack) (b1 .stack) (value-words v) (values-words (a .parts)) (s .top) 8 (8 * length (a .parts)) (length-value v) h (a .long) (rw (a .topped) at (a .stacked)));
-      long = length-sets (b1 .stack) (s .top) (value-words v) ∙ a .long }
+      long = length-sets (b1 .stack) (s .top) (value-words v) ∙ a .long;
+    }
 
 -- a value in front of the values that follow
 abbrev pub cons-to : Value → Values → At → monad.Counters → Outcome Values

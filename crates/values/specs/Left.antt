@@ -147,8 +147,13 @@ value-case : (b : Bufs) (s : State) (o : Outcome Value) (b′ : Bufs) (x : Val) 
 value-case b s (done v cs o) b′ x s′ m =
     let e = sym (m .2 .numbers) in
     record {
-      v = v; out = o; is = ap (λ (z : monad.Counters). done v z o) e; head = m .0; sound = m .1;
-      left = subst (λ (z : monad.Counters). Left b s (parts-of v) z o b′ s′) e (m .2) }
+      v = v;
+      out = o;
+      is = ap (λ (z : monad.Counters). done v z o) e;
+      head = m .0;
+      sound = m .1;
+      left = subst (λ (z : monad.Counters). Left b s (parts-of v) z o b′ s′) e (m .2);
+    }
 value-case b s (refused k l) b′ x s′ m = absurd m
 
 pub value-done : {b : Bufs} {s : State} {o : Outcome Value} {b′ : Bufs} {r : Lowered} {x : Val} {s′ : State}
@@ -172,8 +177,10 @@ bit-case : (b : Bufs) (s : State) (o : Outcome BitOperand) (b′ : Bufs) (x : Bi
 bit-case b s (done v cs o) b′ x s′ m =
     let e = sym (m .1 .numbers) in
     record {
-      out = o; is = rw (m .0) (ap (λ (z : monad.Counters). done v z o) e);
-      left = subst (λ (z : monad.Counters). Left b s [] z o b′ s′) e (m .1) }
+      out = o;
+      is = rw (m .0) (ap (λ (z : monad.Counters). done v z o) e);
+      left = subst (λ (z : monad.Counters). Left b s [] z o b′ s′) e (m .1);
+    }
 bit-case b s (refused k l) b′ x s′ m = absurd m
 
 pub bit-done : {b : Bufs} {s : State} {o : Outcome BitOperand} {b′ : Bufs} {r : BitLowered} {x : Bit} {s′ : State}
@@ -199,8 +206,12 @@ list-case : (t : ℕ) (b : Bufs) (s : State) (o : Outcome Values) (b′ : Bufs) 
 list-case t b s (done v cs o) b′ s′ m =
     let e = sym (m .1 .numbers) in
     record {
-      vs = v; out = o; is = ap (λ (z : monad.Counters). done v z o) e; many = m .0;
-      left = subst (λ (z : monad.Counters). Left b s (preorders v) z o b′ s′) e (m .1) }
+      vs = v;
+      out = o;
+      is = ap (λ (z : monad.Counters). done v z o) e;
+      many = m .0;
+      left = subst (λ (z : monad.Counters). Left b s (preorders v) z o b′ s′) e (m .1);
+    }
 list-case t b s (refused k l) b′ s′ m = absurd m
 
 pub list-done : {t : ℕ} {b : Bufs} {s : State} {o : Outcome Values} {b′ : Bufs} {r : Listed} {s′ : State}

@@ -60,7 +60,8 @@ unfoldable pub value-at : List ℕ → ℕ → Val
 value-at l i =
     record {
       ty = getD l i 0;
-      repr = repr-in (getD l (i + 1) 0) (getD l (i + 2) 0) (getD l (i + 3) 0) (getD l (i + 4) 0) (getD l (i + 5) 0) (getD l (i + 6) 0) }
+      repr = repr-in (getD l (i + 1) 0) (getD l (i + 2) 0) (getD l (i + 3) 0) (getD l (i + 4) 0) (getD l (i + 5) 0) (getD l (i + 6) 0);
+    }
 
 -- the values whose records stand in words
 unfoldable pub values-in : List ℕ → List Val

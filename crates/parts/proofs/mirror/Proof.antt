@@ -54,7 +54,7 @@ loop-less : tie.Need-loop-less Inv-loop μ-loop
 loop-less c = omega arith
 
 loop-again : tie.Need-loop-again Inv-loop μ-loop
-loop-again c = 
+loop-again c =
     let l = c .before .before .before .loop in
     (omega arith, omega arith, simp length-set (l .inv .2), mirror-more (l .s) (l .i) (l .j) (c .before .before .loop-test .taken) (omega arith) ∙ l .inv .3)
 

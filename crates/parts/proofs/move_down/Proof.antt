@@ -42,11 +42,13 @@ loop-less : tie.Need-loop-less Inv-loop μ-loop
 loop-less c = omega arith
 
 loop-again : tie.Need-loop-again Inv-loop μ-loop
-loop-again c = 
+loop-again c =
     let s = c .before .before .before in
-    let l = c .before .before .loop in
-    (omega arith, simp length-set (l .inv .1),
-    moved-more (s .args .s .now) (l .s) (s .args .a) (s .args .b) (s .args .n) (l .j) (s .pre .0) (omega arith) (s .pre .1) (l .inv .2))
+    let l = c .before .before .loop in (
+      omega arith,
+      simp length-set (l .inv .1),
+      moved-more (s .args .s .now) (l .s) (s .args .a) (s .args .b) (s .args .n) (l .j) (s .pre .0) (omega arith) (s .pre .1) (l .inv .2),
+    )
 
 same-length : tie.Need-same-length Inv-loop μ-loop
 same-length c = c .before .loop .inv .1

@@ -29,7 +29,7 @@ returns-2 : tie.Need-returns-2
 returns-2 c = let e = c .before .repr .given .1 in let h = (rw e at (c .before .before .before .pre .1)) in rw e (sym (own-bit (c .before .repr .given .0 .0) _ h))
 
 returns-3 : tie.Need-returns-3
-returns-3 c = 
+returns-3 c =
     let e = c .before .before .repr2 .given .1 in
     let i = c .before .before .before .before .args .i in
     let h : i < c .before .before .repr2 .given .0 .0 .total = subst (λ (n : ℕ). i < n) (length-own-bytes _) (rw e at (c .before .before .before .before .pre .1)) in

@@ -31,14 +31,15 @@ same-length : tie.Need-same-length
 same-length c = search needs
 
 returns : tie.Need-returns
-returns c = 
+returns c =
     let s = c .before .before .before .before .before .before .before .before .before .before .before .before .before .before in
     let a = s .args in
     let l = a .stack .now in
     let w = c .before .before .before .before .before .before .before .before .before .before .before .before .value-words .ensures in
     record {
       words = put-words l (c .before .before .before .before .before .before .before .before .before .before .before .before .value-words .result) _ _ _ (a .p) (a .q) (a .mid) (a .end) (ap length w ∙ length-value (a .x)) (s .pre .0) (s .pre .1) (s .pre .2) (s .pre .3) (c .before .before .before .before .before .before .before .before .before .before .turn .ensures) (c .before .before .before .before .before .before .move-down .ensures) (c .before .before .store8 .ensures)
-        ∙ ap (λ (z : List ℕ). take (a .p) l ++ (z ++ (seg (a .mid) (a .end) l ++ seg (a .q) (a .mid) l))) w }
+          ∙ ap (λ (z : List ℕ). take (a .p) l ++ (z ++ (seg (a .mid) (a .end) l ++ seg (a .q) (a .mid) l))) w;
+    }
 
 pub put-part-spec : {M : Type 1} → statement M
 put-part-spec =

@@ -52,11 +52,12 @@ loop-again : tie.Need-loop-again Inv-loop μ-loop
 loop-again c =
     let s = c .before .before .before in
     let l = c .before .before .loop in
-    let e = ws-length s in
-    (omega arith,
-    ⊎-elim (λ w. w .1 ∙ stored-more (s .args .stack .now) (l .stack) (s .args .t3) (s .args .at) (l .j) (omega arith) (l .inv .1))
-    (λ w. w .1 ∙ dropped-more (s .args .stack .now) (l .stack) (s .args .t3) (s .args .at) (l .j) (omega arith) (w .0 .left) (l .inv .1))
-    (c .if1 .came))
+    let e = ws-length s in (
+      omega arith,
+      ⊎-elim (λ w. w .1 ∙ stored-more (s .args .stack .now) (l .stack) (s .args .t3) (s .args .at) (l .j) (omega arith) (l .inv .1))
+          (λ w. w .1 ∙ dropped-more (s .args .stack .now) (l .stack) (s .args .t3) (s .args .at) (l .j) (omega arith) (w .0 .left) (l .inv .1))
+          (c .if1 .came),
+    )
 
 same-length : tie.Need-same-length Inv-loop μ-loop
 same-length c = ap length (c .before .loop .inv .1) ∙ simp length-sets

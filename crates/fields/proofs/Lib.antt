@@ -1,0 +1,5 @@
+pub mod Tests
+pub mod Marks
+pub mod Decimals
+pub mod Tabs
+pub mod Lines

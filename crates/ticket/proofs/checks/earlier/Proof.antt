@@ -1,0 +1,81 @@
+use borrow.Author.Needs.{needs}
+use Rattle.fields.proofs.Tests.{tests}
+use Rattle.ticket.proofs.checks.earlier.Statement.{statement}
+use Rattle.ticket.proofs.checks.earlier.Tie as tie
+use Rattle.ticket.proofs.checks.earlier.Reads as reads
+use Rattle.ticket.proofs.checks.earlier.Lts as lts
+
+-- src/checks.rt:194:33
+enum-told : tie.Need-enum-told
+enum-told c = search needs
+
+-- src/checks.rt:195:30
+enum-told-2 : tie.Need-enum-told-2
+enum-told-2 c = search needs
+
+-- src/checks.rt:196:28
+enum-told-3 : tie.Need-enum-told-3
+enum-told-3 c = search needs
+
+-- src/checks.rt:197:28
+enum-told-4 : tie.Need-enum-told-4
+enum-told-4 c = search needs
+
+-- src/checks.rt:198:31
+enum-told-5 : tie.Need-enum-told-5
+enum-told-5 c = search needs
+
+-- src/checks.rt:199:29
+enum-told-6 : tie.Need-enum-told-6
+enum-told-6 c = search needs
+
+-- src/checks.rt:200:28
+enum-told-7 : tie.Need-enum-told-7
+enum-told-7 c = search needs
+
+-- src/checks.rt:190:1
+returns : tie.Need-returns
+returns c = search needs
+
+-- src/checks.rt:190:1
+returns-2 : tie.Need-returns-2
+returns-2 c = search needs
+
+-- src/checks.rt:190:1
+returns-3 : tie.Need-returns-3
+returns-3 c = rw (c .before .enum-told3 .given .1)
+
+-- src/checks.rt:190:1
+returns-4 : tie.Need-returns-4
+returns-4 c = rw (c .before .enum-told4 .given .1)
+
+-- src/checks.rt:190:1
+returns-5 : tie.Need-returns-5
+returns-5 c = rw (c .before .enum-told5 .given .1)
+
+-- src/checks.rt:190:1
+returns-6 : tie.Need-returns-6
+returns-6 c = rw (c .before .enum-told6 .given .1)
+
+-- src/checks.rt:190:1
+returns-7 : tie.Need-returns-7
+returns-7 c = rw (c .before .enum-told7 .given .1)
+
+pub earlier-spec : {M : Type 1} → statement M
+earlier-spec =
+    tie.close
+    (tie.spec
+    enum-told
+    enum-told-2
+    enum-told-3
+    enum-told-4
+    enum-told-5
+    enum-told-6
+    enum-told-7
+    returns
+    returns-2
+    returns-3
+    returns-4
+    returns-5
+    returns-6
+    returns-7)

@@ -1,0 +1,20 @@
+use borrow.Author.Needs.{needs}
+use mathlib.Core.Path.{refl, sym, _∙_, ap}
+use Rattle.ticket.specs.Classes.{placeWord}
+use Rattle.ticket.proofs.LookLaws.{place-word-at}
+use Rattle.ticket.proofs.lookups.place_word.Statement.{statement}
+use Rattle.ticket.proofs.lookups.place_word.Tie as tie
+use Rattle.ticket.proofs.lookups.place_word.Reads as reads
+use Rattle.ticket.proofs.lookups.place_word.Lts as lts
+use Rattle.ticket.proofs.tables.entry.Reads as entry-reads
+
+-- src/lookups.rt:51:5
+entry-requires : tie.Need-entry-requires
+entry-requires c κs = search needs
+
+-- src/lookups.rt:47:1
+returns : tie.Need-returns
+returns c = ap placeWord (c .entry .ensures) ∙ place-word-at (c .before .before .before .args .rows .now) (c .before .before .before .args .lists .now) (c .before .before .before .args .counts) (c .before .before .before .args .k)
+
+pub place-word-spec : {M : Type 1} → statement M
+place-word-spec = tie.close (tie.spec entry-requires returns)

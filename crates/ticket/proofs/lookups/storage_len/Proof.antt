@@ -1,0 +1,19 @@
+use borrow.Author.Needs.{needs}
+use mathlib.Core.Path.{refl, sym, _∙_, ap}
+use Rattle.ticket.proofs.LookLaws.{storage-len-at}
+use Rattle.ticket.proofs.lookups.storage_len.Statement.{statement}
+use Rattle.ticket.proofs.lookups.storage_len.Tie as tie
+use Rattle.ticket.proofs.lookups.storage_len.Reads as reads
+use Rattle.ticket.proofs.lookups.storage_len.Lts as lts
+use Rattle.ticket.proofs.lookups.number.Reads as number-reads
+
+-- src/lookups.rt:114:5
+number-requires : tie.Need-number-requires
+number-requires c κs = search needs
+
+-- src/lookups.rt:110:1
+returns : tie.Need-returns
+returns c = c .number .ensures ∙ storage-len-at (c .before .before .before .args .rows .now) (c .before .before .before .args .lists .now) (c .before .before .before .args .counts) (c .before .before .before .args .k)
+
+pub storage-len-spec : {M : Type 1} → statement M
+storage-len-spec = tie.close (tie.spec number-requires returns)

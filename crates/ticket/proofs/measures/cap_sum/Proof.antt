@@ -1,0 +1,88 @@
+use mathlib.Core.Path.{_≡_}
+use Prim.Native.Nat.{_≤_, _-_, _<_, _+_, _*_, _^_}
+use lib.ListN.{length, drop, getD}
+use borrow.Author.Needs.{needs}
+use Prim.Native.Nat.{ℕ}
+use Rattle.fields.specs.Tab.{run}
+use Rattle.spec.specs.Ticket.{sum}
+use Rattle.ticket.specs.Rows.{entryAt}
+use Rattle.ticket.specs.Steps.{capped}
+use Rattle.ticket.proofs.MeasureLaws.{sum-start, sum-end, sum-over, sum-more}
+use Rattle.ticket.proofs.measures.cap_sum.Statement.{statement}
+use Rattle.ticket.proofs.measures.cap_sum.Tie as tie
+use Rattle.ticket.proofs.measures.cap_sum.Reads as reads
+use Rattle.ticket.proofs.measures.cap_sum.Lts as lts
+use Rattle.ticket.proofs.tables.entry.Reads as entry-reads
+
+abbrev Inv-loop : tie.InvT-loop
+Inv-loop rows lists types start n j other limit total₀ i₀ total i = (i ≤ n) × (total ≤ limit) × (capped limit (sum (λ t. entryAt rows 0 types t j other) (run lists start n)) ≡ capped limit (total + sum (λ t. entryAt rows 0 types t j other) (run lists (start + i) (n - i))))
+
+abbrev μ-loop : tie.MeasureT-loop
+μ-loop rows lists types start n j other limit total₀ i₀ total i = n - i
+
+-- src/measures.rt:110:5
+loop-holds : tie.Need-loop-holds Inv-loop μ-loop
+loop-holds c = let f : ℕ → ℕ = λ t. entryAt (c .before .before .args .rows .now) 0 (c .before .before .args .types) t (c .before .before .args .j) (c .before .before .args .other) in (search needs, search needs, sum-start f _ _ _ _)
+
+-- src/measures.rt:111:18
+add-at : tie.Need-add-at Inv-loop μ-loop
+add-at c = search needs
+
+-- src/measures.rt:112:39
+mul-entry : tie.Need-mul-entry Inv-loop μ-loop
+mul-entry c = search needs
+
+-- src/measures.rt:112:39
+shared-slice-read-entry : tie.Need-shared-slice-read-entry Inv-loop μ-loop
+shared-slice-read-entry c = search needs
+
+-- src/measures.rt:112:13
+entry-requires : tie.Need-entry-requires Inv-loop μ-loop
+entry-requires c κs = search needs
+
+-- src/measures.rt:113:12
+sub-if1 : tie.Need-sub-if1 Inv-loop μ-loop
+sub-if1 c = search needs
+
+-- src/measures.rt:114:13
+returns : tie.Need-returns Inv-loop μ-loop
+returns c = let f : ℕ → ℕ = λ t. entryAt (c .before .before .before .before .before .before .before .args .rows .now) 0 (c .before .before .before .before .before .before .before .args .types) t (c .before .before .before .before .before .before .before .args .j) (c .before .before .before .before .before .before .before .args .other) in sum-over _ f _ _ _ _ _ _ (c .before .before .before .before .loop .inv .2) _ (c .before .before .before .loop-test .taken) (c .before .entry .ensures) (c .if1 .taken)
+
+-- src/measures.rt:116:9
+add-total : tie.Need-add-total Inv-loop μ-loop
+add-total c = search needs
+
+-- src/measures.rt:117:9
+add-i : tie.Need-add-i Inv-loop μ-loop
+add-i c = search needs
+
+-- src/measures.rt:110:5
+loop-less : tie.Need-loop-less Inv-loop μ-loop
+loop-less c = search needs
+
+-- src/measures.rt:110:5
+loop-again : tie.Need-loop-again Inv-loop μ-loop
+loop-again c = let f : ℕ → ℕ = λ t. entryAt (c .before .before .before .before .before .before .before .args .rows .now) 0 (c .before .before .before .before .before .before .before .args .types) t (c .before .before .before .before .before .before .before .args .j) (c .before .before .before .before .before .before .before .args .other) in (search needs, search needs, sum-more _ f _ _ _ _ _ _ (c .before .before .before .before .loop .inv .2) _ (c .before .before .before .loop-test .taken) (c .before .entry .ensures))
+
+-- src/measures.rt:104:1
+returns-2 : tie.Need-returns-2 Inv-loop μ-loop
+returns-2 c = let f : ℕ → ℕ = λ t. entryAt (c .before .before .before .before .args .rows .now) 0 (c .before .before .before .before .args .types) t (c .before .before .before .before .args .j) (c .before .before .before .before .args .other) in sum-end _ f _ _ _ _ _ _ (c .before .loop .inv .2) (c .loop-test .left) (search needs)
+
+pub cap-sum-spec : {M : Type 1} → statement M
+cap-sum-spec =
+    tie.close
+    (tie.spec
+    Inv-loop
+    μ-loop
+    loop-holds
+    add-at
+    mul-entry
+    shared-slice-read-entry
+    entry-requires
+    sub-if1
+    returns
+    add-total
+    add-i
+    loop-less
+    loop-again
+    returns-2)

@@ -1,0 +1,89 @@
+use mathlib.Core.Path.{_≡_}
+use Prim.Native.Nat.{_≤_, _-_, _<_, _+_, _*_, _^_}
+use lib.ListN.{length, drop, getD}
+use borrow.Author.Needs.{needs}
+use Rattle.spec.specs.Text.{same}
+use Rattle.fields.specs.Tab.{run}
+use Rattle.ticket.proofs.MeasureLaws.{runs, runs-more}
+use Rattle.ticket.proofs.measures.same_runs.Statement.{statement}
+use Rattle.ticket.proofs.measures.same_runs.Tie as tie
+use Rattle.ticket.proofs.measures.same_runs.Reads as reads
+use Rattle.ticket.proofs.measures.same_runs.Lts as lts
+
+abbrev Inv-loop : tie.InvT-loop
+Inv-loop lists a n b m i₀ i = (i ≤ n) × (n ≡ m) × (same (run lists a n) (run lists b m) ≡ same (run lists (a + i) (n - i)) (run lists (b + i) (n - i)))
+
+abbrev μ-loop : tie.MeasureT-loop
+μ-loop lists a n b m i₀ i = n - i
+
+-- src/measures.rt:24:9
+returns : tie.Need-returns Inv-loop μ-loop
+returns c = search (runs, needs)
+
+-- src/measures.rt:27:5
+loop-holds : tie.Need-loop-holds Inv-loop μ-loop
+loop-holds c = search (runs, needs)
+
+-- src/measures.rt:28:17
+add-x : tie.Need-add-x Inv-loop μ-loop
+add-x c = search (runs, needs)
+
+-- src/measures.rt:29:17
+add-y : tie.Need-add-y Inv-loop μ-loop
+add-y c = search (runs, needs)
+
+-- src/measures.rt:30:12
+mul-if2 : tie.Need-mul-if2 Inv-loop μ-loop
+mul-if2 c = search (runs, needs)
+
+-- src/measures.rt:30:12
+shared-slice-read-if2 : tie.Need-shared-slice-read-if2 Inv-loop μ-loop
+shared-slice-read-if2 c = search (runs, needs)
+
+-- src/measures.rt:30:24
+mul-if2-2 : tie.Need-mul-if2-2 Inv-loop μ-loop
+mul-if2-2 c = search (runs, needs)
+
+-- src/measures.rt:30:24
+shared-slice-read-if2-2 : tie.Need-shared-slice-read-if2-2 Inv-loop μ-loop
+shared-slice-read-if2-2 c = search (runs, needs)
+
+-- src/measures.rt:31:13
+returns-2 : tie.Need-returns-2 Inv-loop μ-loop
+returns-2 c = search (runs, needs)
+
+-- src/measures.rt:33:9
+add-i : tie.Need-add-i Inv-loop μ-loop
+add-i c = search (runs, needs)
+
+-- src/measures.rt:27:5
+loop-less : tie.Need-loop-less Inv-loop μ-loop
+loop-less c = search (runs, needs)
+
+-- src/measures.rt:27:5
+loop-again : tie.Need-loop-again Inv-loop μ-loop
+loop-again c = (search needs, search needs, runs-more _ _ _ _ _ _ (c .before .before .before .before .loop .inv .2) (search needs) (search needs))
+
+-- src/measures.rt:19:1
+returns-3 : tie.Need-returns-3 Inv-loop μ-loop
+returns-3 c = search (runs, needs)
+
+pub same-runs-spec : {M : Type 1} → statement M
+same-runs-spec =
+    tie.close
+    (tie.spec
+    Inv-loop
+    μ-loop
+    returns
+    loop-holds
+    add-x
+    add-y
+    mul-if2
+    shared-slice-read-if2
+    mul-if2-2
+    shared-slice-read-if2-2
+    returns-2
+    add-i
+    loop-less
+    loop-again
+    returns-3)

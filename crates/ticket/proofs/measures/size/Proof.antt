@@ -1,0 +1,116 @@
+use borrow.Author.Needs.{needs}
+use Rattle.ticket.specs.Classes.{typeRule}
+use lib.Dec.{lit≤}
+use Rattle.ticket.proofs.MeasureLaws.{cap-in, unit-sizes}
+use Rattle.ticket.proofs.measures.size.Statement.{statement}
+use Rattle.ticket.proofs.measures.size.Tie as tie
+use Rattle.ticket.proofs.measures.size.Reads as reads
+use Rattle.ticket.proofs.measures.size.Lts as lts
+use Rattle.ticket.proofs.measures.array_size.Reads as array-size-reads
+use Rattle.ticket.proofs.measures.bits_size.Reads as bits-size-reads
+use Rattle.ticket.proofs.measures.cap.Reads as cap-reads
+use Rattle.ticket.proofs.measures.cap_sum.Reads as cap-sum-reads
+use Rattle.ticket.proofs.tables.arg.Reads as arg-reads
+
+-- src/measures.rt:167:24
+arg-requires : tie.Need-arg-requires
+arg-requires c κs = search needs
+
+-- src/measures.rt:167:14
+bits-size-requires : tie.Need-bits-size-requires
+bits-size-requires c κs = search needs
+
+-- src/measures.rt:168:24
+arg-requires-2 : tie.Need-arg-requires-2
+arg-requires-2 c κs = search needs
+
+-- src/measures.rt:168:14
+cap-requires : tie.Need-cap-requires
+cap-requires c κs = search needs
+
+-- src/measures.rt:170:14
+array-size-requires : tie.Need-array-size-requires
+array-size-requires c κs = search needs
+
+-- src/measures.rt:171:14
+cap-sum-requires : tie.Need-cap-sum-requires
+cap-sum-requires c κs = search needs
+
+-- src/measures.rt:172:14
+cap-sum-requires-2 : tie.Need-cap-sum-requires-2
+cap-sum-requires-2 c κs = search needs
+
+-- src/measures.rt:173:24
+arg-requires-3 : tie.Need-arg-requires-3
+arg-requires-3 c κs = search needs
+
+-- src/measures.rt:173:14
+cap-requires-2 : tie.Need-cap-requires-2
+cap-requires-2 c κs = search needs
+
+-- src/measures.rt:161:1
+returns : tie.Need-returns
+unfolding typeRule
+returns c = rw (c .match .keys1) (cap-in _ 1 (lit≤ tt))
+
+-- src/measures.rt:161:1
+returns-2 : tie.Need-returns-2
+unfolding typeRule
+returns-2 c = rw (c .before .before .match .keys2, ← c .before .arg .ensures) (c .bits-size .ensures)
+
+-- src/measures.rt:161:1
+returns-3 : tie.Need-returns-3
+unfolding typeRule
+returns-3 c = rw (c .before .before .match .keys3, ← c .before .arg2 .ensures) (c .cap .ensures)
+
+-- src/measures.rt:161:1
+returns-4 : tie.Need-returns-4
+unfolding typeRule
+returns-4 c = rw (c .match .keys4) (cap-in _ 2 (lit≤ tt))
+
+-- src/measures.rt:161:1
+returns-5 : tie.Need-returns-5
+unfolding typeRule
+returns-5 c = rw (c .before .match .keys5) (c .array-size .ensures)
+
+-- src/measures.rt:161:1
+returns-6 : tie.Need-returns-6
+unfolding typeRule
+returns-6 c = rw (c .before .match .keys6) (c .cap-sum .ensures)
+
+-- src/measures.rt:161:1
+returns-7 : tie.Need-returns-7
+unfolding typeRule
+returns-7 c = rw (c .before .match .keys7) (c .cap-sum2 .ensures)
+
+-- src/measures.rt:161:1
+returns-8 : tie.Need-returns-8
+unfolding typeRule
+returns-8 c = rw (c .before .before .match .keys8, ← c .before .arg3 .ensures) (c .cap2 .ensures)
+
+-- src/measures.rt:161:1
+returns-9 : tie.Need-returns-9
+returns-9 c = search (unit-sizes, needs)
+
+pub size-spec : {M : Type 1} → statement M
+size-spec =
+    tie.close
+    (tie.spec
+    arg-requires
+    bits-size-requires
+    arg-requires-2
+    cap-requires
+    array-size-requires
+    cap-sum-requires
+    cap-sum-requires-2
+    arg-requires-3
+    cap-requires-2
+    returns
+    returns-2
+    returns-3
+    returns-4
+    returns-5
+    returns-6
+    returns-7
+    returns-8
+    returns-9)

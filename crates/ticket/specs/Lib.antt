@@ -1,0 +1,6 @@
+pub mod Classes
+pub mod Rows
+pub mod Steps
+pub mod Grown
+pub mod Judged
+pub mod Answers

@@ -1,0 +1,116 @@
+// The ticket: its lines as tables, the expression that they stand for, and its reading.
+ghost use mathlib.Core.Path.{_≡_};
+
+mod adding;
+mod checks;
+mod forms;
+pub mod lookups;
+mod measures;
+pub mod reading;
+mod steps;
+pub mod tables;
+
+// Kinds of lines, in their order.
+pub enum LineKind {
+    Functions,
+    Types,
+    Storages,
+    Variables,
+    Statics,
+    Places,
+    Nodes,
+}
+
+// What a field holds: a number in a range, a float's width, or an earlier line's number.
+pub enum Class {
+    Between(u64, u64),
+    FloatWidth,
+    TypePart,
+    TypeLine,
+    StorageLine,
+    PlaceLine,
+    NodeLine,
+}
+
+// A line's kind, its word's number and how many numbers it has. They stand behind the used part of the lists.
+pub struct Form {
+    pub kind: LineKind,
+    pub word: u64,
+    pub count: usize,
+}
+
+pub enum Formed {
+    Line(Form),
+    Unformed,
+}
+
+// How many lines of each kind there are, the numbers in use of the lists, and the state of reading.
+pub struct Counts {
+    pub function: u64,
+    pub next: u64,
+    pub types: u64,
+    pub storages: u64,
+    pub variables: u64,
+    pub statics: u64,
+    pub places: u64,
+    pub nodes: u64,
+    pub used: usize,
+    pub stage: u64,
+    pub lines: u64,
+    pub sizes: u64,
+    pub weights: u64,
+}
+
+// A number within a limit.
+pub enum Capped {
+    Within(u64),
+    Over,
+}
+
+pub enum Verdict {
+    Passed,
+    Refused(u64),
+}
+
+// A type's size and weight.
+pub enum Measured {
+    Fits(u64, u64),
+    TooLarge,
+}
+
+// What is known of a line besides its form: a type's size and weight, its depth, and the sums over nodes with it.
+pub struct Extent {
+    pub size: u64,
+    pub weight: u64,
+    pub depth: u64,
+    pub sizes: u64,
+    pub weights: u64,
+}
+
+pub enum Stepped {
+    Went(Counts),
+    Turned(u64),
+}
+
+// The sums over nodes.
+pub enum Summed {
+    Sums(u64, u64),
+    Beyond,
+}
+
+// The least of some lines.
+pub enum Least {
+    Line(u64),
+    Nothing,
+}
+
+pub enum Advanced {
+    Behind(Counts, usize),
+    Stopped(u64),
+}
+
+// The refusal's number and line, or the tables' counts.
+pub enum ReadAnswer {
+    Refused(u64, u64),
+    Accepted(Counts),
+}

@@ -1,0 +1,151 @@
+// Reading a ticket.
+ghost use mathlib.Core.Path.{_≡_};
+ghost use Prim.Native.Nat.{_+_, _*_, _≤_, _<_};
+ghost use lib.ListN.{length, drop};
+ghost use Rattle.spec.specs.Text.{split, line-feed};
+ghost use Rattle.spec.specs.Read.{at-end, read-lines as readLines, read-ticket as readTicket, start};
+ghost use Rattle.ticket.specs.Rows.{Few, Held, rows-length, readingOf};
+ghost use Rattle.ticket.specs.Answers.{leastOf, joined, with-left, least-rows, but-last, left-of, Answered, Advance, Begun};
+use crate::Advanced;
+use crate::Counts;
+use crate::Least;
+use crate::ReadAnswer;
+use crate::Stepped;
+use crate::steps::step;
+use crate::tables::entry;
+
+fn lesser(x: u64, least: Least) -> Least
+    ensures { λ r. ⌜ leastOf r ≡ joined x (leastOf least) ⌝ }
+{
+    match least {
+        Least::Line(y) => if x < y {
+            Least::Line(x)
+        } else {
+            Least::Line(y)
+        },
+        Least::Nothing => Least::Line(x),
+    }
+}
+
+fn with_row(rows: &[u64], base: u64, n: u64, k: u64, least: Least) -> Least
+    requires { ⌜ (base + n ≤ 65536) × (k < n) ⌝ }
+    ensures { λ r. ⌜ leastOf r ≡ with-left (now (rows .entry)) (base + k) (leastOf least) ⌝ }
+{
+    if entry(rows, base, n, k, 5, 0) != 0 {
+        return least;
+    }
+    let line = entry(rows, base, n, k, 3, 0);
+    lesser(line, least)
+}
+
+// The least line of n rows that nothing refers to, or of those already seen.
+fn least_left(rows: &[u64], base: u64, n: u64, seen: Least) -> Least
+    requires { ⌜ base + n ≤ 65536 ⌝ }
+    ensures { λ r. ⌜ leastOf r ≡ least-rows (now (rows .entry)) base 0 n (leastOf seen) ⌝ }
+{
+    let mut least = seen;
+    let mut k = n;
+    while 0 < k {
+        k -= 1;
+        least = with_row(rows, base, n, k, least);
+    }
+    least
+}
+
+fn but_root(n: u64) -> u64
+    ensures { λ r. ⌜ (r ≡ but-last n) × (r ≤ n) ⌝ }
+{
+    if n == 0 { 0 } else { n - 1 }
+}
+
+fn left_over(rows: &[u64], counts: Counts) -> Least
+    requires { ⌜ Few counts ⌝ }
+    ensures { λ r. ⌜ leastOf r ≡ left-of (now (rows .entry)) counts ⌝ }
+{
+    let others = but_root(counts.nodes);
+    let seen = least_left(rows, 896, others, Least::Nothing);
+    least_left(rows, 640, counts.places, seen)
+}
+
+// The text's end: a line left over, or no node.
+fn finish(rows: &[u64], lists: &[u64], counts: Counts) -> ReadAnswer
+    requires { ⌜ Held (now rows) counts × (counts .lines ≤ 65536) × (counts .used ≤ length (now lists)) ⌝ }
+    ensures { λ r. ⌜ Answered (at-end (readingOf (now (rows .entry)) (now (lists .entry)) counts)) (now (rows .entry)) (now (lists .entry)) r ⌝ }
+{
+    match left_over(rows, counts) {
+        Least::Line(n) => ReadAnswer::Refused(7, n),
+        Least::Nothing => {
+            if counts.nodes == 0 {
+                return ReadAnswer::Refused(2, counts.lines + 1);
+            }
+            ReadAnswer::Accepted(counts)
+        }
+    }
+}
+
+// The line at a position, judged and added.
+fn advance(text: &[u8], at: usize, rows: &mut [u64], lists: &mut [u64], counts: Counts) -> Advanced
+    requires { ⌜ Held (now rows) counts × (rows-length ≤ length (now rows)) × (length (now text) ≤ length (now lists) * 2) × (counts .used * 2 ≤ at) × (counts .lines ≤ at) × (at < length (now text)) × (length (now text) ≤ 65536) ⌝ }
+    ensures { λ r. ⌜ Advance (now (text .entry)) (now (rows .entry)) (now (lists .entry)) (now (rows .exit)) (now (lists .exit)) counts at r ⌝ }
+{
+    let end = fields::find(text, at, 10);
+    if end == text.len() {
+        return Advanced::Stopped(2);
+    }
+    match step(&text[at..end], rows, lists, counts) {
+        Stepped::Went(next) => Advanced::Behind(next, end + 1),
+        Stepped::Turned(n) => Advanced::Stopped(n),
+    }
+}
+
+// No line read.
+fn none_read() -> Counts
+    ensures { λ r. ⌜ Begun r ⌝ }
+{
+    Counts {
+        function: 0,
+        next: 0,
+        types: 0,
+        storages: 0,
+        variables: 0,
+        statics: 0,
+        places: 0,
+        nodes: 0,
+        used: 0,
+        stage: 0,
+        lines: 0,
+        sizes: 0,
+        weights: 0,
+    }
+}
+
+fn read_lines(text: &[u8], rows: &mut [u64], lists: &mut [u64]) -> ReadAnswer
+    requires { ⌜ (rows-length ≤ length (now rows)) × (length (now text) ≤ length (now lists) * 2) × (length (now text) ≤ 65536) ⌝ }
+    ensures { λ r. ⌜ Answered (readLines (split line-feed (now (text .entry))) start) (now (rows .exit)) (now (lists .exit)) r ⌝ }
+{
+    let mut counts = none_read();
+    let mut at: usize = 0;
+    while at < text.len() {
+        match advance(text, at, rows, lists, counts) {
+            Advanced::Behind(next, behind) => {
+                counts = next;
+                at = behind;
+            }
+            Advanced::Stopped(n) => {
+                return ReadAnswer::Refused(n, counts.lines + 1);
+            }
+        }
+    }
+    finish(rows, lists, counts)
+}
+
+// Any bytes into tables, or their refusal.
+pub fn read_ticket(text: &[u8], rows: &mut [u64], lists: &mut [u64]) -> ReadAnswer
+    requires { ⌜ (rows-length ≤ length (now rows)) × (length (now text) ≤ length (now lists) * 2) ⌝ }
+    ensures { λ r. ⌜ Answered (readTicket (now (text .entry))) (now (rows .exit)) (now (lists .exit)) r ⌝ }
+{
+    if 65536 < text.len() {
+        return ReadAnswer::Refused(1, 0);
+    }
+    read_lines(text, rows, lists)
+}
