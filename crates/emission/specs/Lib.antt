@@ -1,3 +1,4 @@
+pub mod Advance
 pub mod Appends
 pub mod Tabs
 pub mod Operands

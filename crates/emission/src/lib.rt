@@ -37,6 +37,7 @@ ghost use Rattle.spec.specs.Conversions.{bit-to-bytes};
 ghost use Rattle.lir.specs.Abstract.{tab, pick, byte-storage-of, byte-operand-of, bit-operand-of, carry-of, bytes-of, destinations-of, byte-binary-op-of, rotate-direction-of, shift-op-of, unary-op-of, binary-op-of, compare-op-of, kind-of, storage-kind-of, purpose-of, Small};
 ghost use Rattle.lir.specs.Sound.{Sound};
 ghost use Rattle.lir.specs.PutFields.{spot};
+ghost use Rattle.emission.specs.Advance.{advanced};
 ghost use Rattle.emission.specs.Appends.{texts, Room};
 ghost use Rattle.emission.specs.Emits.{Emits, Allocates};
 ghost use Rattle.emission.specs.Does.{Does, Meets, MeetsCode};
@@ -49,6 +50,19 @@ pub struct Counters {
     pub at: usize,
     pub instructions: u64,
     pub stored: usize,
+    pub storage: u64,
+    pub temporary: u64,
+}
+
+// The next storage's and the next temporary's numbers, lent to what allocates.
+pub struct Allocator {
+    pub storage: u64,
+    pub temporary: u64,
+}
+
+// A new storage's number, and both numbers behind it.
+pub struct Advanced {
+    pub id: StorageId,
     pub storage: u64,
     pub temporary: u64,
 }
@@ -80,6 +94,31 @@ const CARRY_REGIONS: u64 = 2;
 
 // ---------------------------------------------------------------- storages
 
+// A new storage's number; the next temporary's goes up with it, as each new storage has one in its name.
+fn next_storage(a: &mut Allocator) -> StorageId
+    requires { ⌜ (now a .storage + 1 < 2 ^ 64) × (now a .temporary + 1 < 2 ^ 64) ⌝ }
+    ensures { λ r. ⌜ (r .0 ≡ now (a .entry) .storage) × (now (a .exit) ≡ advanced (now (a .entry))) ⌝ }
+{
+    let id = a.storage;
+    a.storage = id + 1;
+    a.temporary = a.temporary + 1;
+    StorageId(id)
+}
+
+// The same by value. What lends a struct is proved by hand, so this alone lends the allocator.
+fn advance(storage: u64, temporary: u64) -> Advanced
+    requires { ⌜ (storage + 1 < 2 ^ 64) × (temporary + 1 < 2 ^ 64) ⌝ }
+    ensures { λ r. ⌜ (r .id .0 ≡ storage) × (r .storage ≡ storage + 1) × (r .temporary ≡ temporary + 1) ⌝ }
+{
+    let mut a = Allocator { storage, temporary };
+    let id = next_storage(&mut a);
+    Advanced {
+        id,
+        storage: a.storage,
+        temporary: a.temporary,
+    }
+}
+
 // The next storage, with the next temporary's number in its name.
 pub fn allocate_storage(
     store: &mut [u8],
@@ -91,7 +130,8 @@ pub fn allocate_storage(
     requires { ⌜ Room 1 c ⌝ }
     ensures { λ r. ⌜ Allocates (now (store .entry)) c (allocate-storage (storage-kind-of kind) (purpose-of purpose) regions) (r .id .0) (now (store .exit)) (r .counters) ⌝ }
 {
-    let id = StorageId(c.storage);
+    let next = advance(c.storage, c.temporary);
+    let id = next.id;
     let number = TemporaryId(c.temporary);
     let stored = lir::print_storage(
         store,
@@ -110,8 +150,8 @@ pub fn allocate_storage(
             at: c.at,
             instructions: c.instructions,
             stored,
-            storage: c.storage + 1,
-            temporary: c.temporary + 1,
+            storage: next.storage,
+            temporary: next.temporary,
         },
     }
 }

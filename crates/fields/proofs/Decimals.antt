@@ -12,7 +12,7 @@ use lib.ListN.{length, getD, drop, drop-of-length-le}
 use lib.Seq.{drop-cons}
 use borrow.Author.Tests.{le-ltb, lt-ltb, le-leb, lt-leb, eq-eqb, ne-eqb}
 use Rattle.spec.specs.Text.{number, numeral, good-start, all-digits, horner}
-use Rattle.fields.specs.Tab.{pick}
+use Rattle.tables.specs.Tables.{pick}
 use Rattle.fields.specs.Fields.{digits-from, small}
 
 grows : (a : ℕ) (ds : List ℕ) → a ≤ horner a ds

@@ -12,7 +12,7 @@ use native.Mathlib.Nat.{add-zero, zero-add}
 use lib.ListN.{length, getD, take, drop, set, length-take, length-drop}
 use lib.Seq.{length-take-le, getD-set-other}
 use Rattle.spec.specs.Text.{split, comma, number, numeral, good-start, same}
-use Rattle.fields.specs.Tab.{tab, run}
+use Rattle.tables.specs.Tables.{tab, run}
 use Rattle.fields.specs.Fields.{
   Found,
   fields-from,

@@ -12,7 +12,7 @@ use lib.ListN.{length, getD, take, drop, drop-of-length-le, length-drop}
 use lib.Seq.{drop-cons, drop-drop}
 use borrow.Author.Tests.{le-ltb, lt-ltb, le-leb, lt-leb, eq-eqb, ne-eqb, leb-true, leb-false}
 use Rattle.spec.specs.Text.{split, comma, same}
-use Rattle.fields.specs.Tab.{pick}
+use Rattle.tables.specs.Tables.{pick}
 use Rattle.fields.specs.Fields.{index, Found, fields-from}
 
 -- ---------------------------------------------------------------- `index` from byte to byte

@@ -2,18 +2,18 @@
 -- Assumes nothing.
 use mathlib.Core.Path.{_≡_, refl, sym, ap, _∙_}
 use mathlib.Core.Bool.{Bool, true, false, _&&_}
-use mathlib.Core.List.{List, [], _∷_, _++_, append-assoc}
+use mathlib.Core.List.{List, [], _∷_, _++_}
 use mathlib.Core.Logic.{_≢_}
-use Prim.Native.Nat.{ℕ, zero, suc, _+_, _-_, _≤_, _<_}
+use Prim.Native.Nat.{ℕ, suc, _+_, _-_, _≤_, _<_}
 use native.Mathlib.Omega.{arith}
 use native.Mathlib.Numerals.{add-one}
-use native.Mathlib.Nat.{add-zero, add-suc, suc-add}
 use lib.Dec.{eqb}
 use lib.ListN.{length, getD, drop, set, drop-of-length-le, length-set}
 use lib.Seq.{drop-cons, getD-set-same, getD-set-other}
 use borrow.Author.Tests.{eq-eqb, ne-eqb}
 use Rattle.spec.specs.Text.{same}
-use Rattle.fields.specs.Tab.{tab, run}
+use Rattle.tables.specs.Tables.{tab, run}
+use Rattle.tables.proofs.Laws as tables
 use Rattle.fields.specs.Fields.{Kept}
 
 -- ---------------------------------------------------------------- `same` from byte to byte
@@ -47,31 +47,13 @@ pub ruleset same-laws = (same-lengths, same-end, same-other, same-more)
 -- ---------------------------------------------------------------- `tab`
 
 module _ {A : Type 0} where
-  tab-suc : (f : ℕ → A) (j n : ℕ) {t : List A} → tab f j (n + 1) ≡ t → tab f j (suc n) ≡ t
-  tab-suc f j n h = rw (← add-one n) h
-
   -- one value more at the end
   pub tab-more : (f : ℕ → A) (j n : ℕ) → tab f j (n + 1) ≡ tab f j n ++ (f (j + n) ∷ [])
-  unfolding tab
-  tab-more f j zero = rw (add-zero)
-  tab-more f j (suc n) = let e : suc j + n ≡ j + suc n = omega arith in rw (add-one) (ap (λ t. f j ∷ t) (tab-suc f (suc j) n (tab-more f (suc j) n) ∙ ap (λ k. tab f (suc j) n ++ (f k ∷ [])) e))
+  tab-more f j n = rw (add-one) (tables.tab-more f j n)
 
   -- two functions that agree on the range
   pub tab-same : (f g : ℕ → A) (j n : ℕ) → ((i : ℕ) → j ≤ i → i < j + n → f i ≡ g i) → tab f j n ≡ tab g j n
-  unfolding tab
-  tab-same f g j zero h = refl
-  tab-same f g j (suc n) h = rw (h j (omega arith) (omega arith), tab-same f g (suc j) n (λ i l u. h i (omega arith) (omega arith)))
-
-  pub length-tab : (f : ℕ → A) (j n : ℕ) → length (tab f j n) ≡ n
-  unfolding tab
-  length-tab f j zero = refl
-  length-tab f j (suc n) = ap suc (length-tab f (suc j) n)
-
-  pub getD-tab : (f : ℕ → A) (d : A) (j n k : ℕ) → k < n → getD (tab f j n) k d ≡ f (j + k)
-  unfolding tab
-  getD-tab f d j zero k h = absurd (omega arith)
-  getD-tab f d j (suc n) zero h = rw add-zero
-  getD-tab f d j (suc n) (suc k) h = let e : suc j + k ≡ j + suc k = omega arith in getD-tab f d (suc j) n k (omega arith) ∙ rw e
+  tab-same f g j n h = tables.tab-same f g j n (λ k l. h (j + k) (omega arith) (omega arith))
 
   -- the rest of a list, from i on
   pub tab-here : (f : ℕ → A) (i n : ℕ) → i < n → tab f i (n - i) ≡ f i ∷ tab f (i + 1) (n - (i + 1))

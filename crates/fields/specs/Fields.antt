@@ -7,7 +7,7 @@ use mathlib.Core.Option.{Option, none, some}
 use lib.Dec.{eqb, leb, ltb}
 use lib.ListN.{length, getD, drop, take}
 use Rattle.spec.specs.Text.{split, comma, number, same, horner, all-digits}
-use Rattle.fields.specs.Tab.{pick, run}
+use Rattle.tables.specs.Tables.{pick, run}
 use Rattle.fields.specs.declared.Cursor.{Cursor}
 use Rattle.fields.specs.declared.Parsed.{Parsed}
 use Rattle.fields.specs.declared.Parsed.the-variants.{Number, Unread}

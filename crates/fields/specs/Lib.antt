@@ -1,2 +1,1 @@
-pub mod Tab
 pub mod Fields

@@ -10,7 +10,7 @@ use native.Mathlib.Nat.{mul-le-mul-right, mul-comm}
 use lib.ListN.{getD}
 use Rattle.spec.specs.Limits.{offset-limit, type-size-limit}
 use Rattle.spec.specs.Ticket.{TypeWord, tUnit, tBool, tBits, tFloat, tPointer, tArray, tStruct, tTuple, tOpaque, PlacedLine, Tables, typeAt, arg, sum, type-size-by}
-use Rattle.spec.specs.Readable.{All, PlacedRight, Readable}
+use Rattle.spec.specs.Readable.{All, TypesRight, PlacedRight, Readable}
 use Rattle.spec.specs.Monad.{Lower, _>>=_}
 use Rattle.spec.specs.Operands.{nth}
 use Rattle.spec.specs.Allocation.{type-size}
@@ -20,9 +20,9 @@ use Rattle.spec.specs.Allocation as allocation
 use Rattle.tables.specs.declared.Counts.{Counts}
 use Rattle.tables.specs.declared.Placed.{Placed}
 use Rattle.tables.specs.declared.PlacedAt.{PlacedAt}
-use Rattle.tables.specs.Tables.{tab, run, type-kind-at, type-word, type-args, size-at, type-line, tables-of, placed-line, placed-option}
+use Rattle.tables.specs.Tables.{tab, run, type-kind-at, type-word, type-args, size-at, tables-of, placed-line, placed-option}
 use Rattle.tables.specs.declared.TypeKind.{TypeKind}
-use Rattle.tables.proofs.Laws.{run-more, type-at, size-here}
+use Rattle.tables.proofs.Laws.{run-more, size-here, word-here, args-here}
 use Rattle.places.specs.declared.Base.{Base}
 use Rattle.places.specs.declared.Based.{Based}
 use Rattle.places.specs.declared.Location.{Location}
@@ -128,16 +128,16 @@ fine-rest T b n f h =
     record { offset-most = h; size-most = l; held = record { most = l } }
 
 -- a base, by what the tables hold at its type
-module _ (rows nodes lists : List ℕ) (c : Counts) (k : TypeKind) (s : ℕ) where
-  pub base-read : (p : PlacedLine) → k ≡ type-kind-at rows c (p .type) → s ≡ size-at rows c (p .type)
+module _ (rows nodes lists : List ℕ) (c : Counts) (R : TypesRight (tables-of rows nodes lists c)) (k : TypeKind) (s : ℕ) where
+  pub base-read : (p : PlacedLine) → k ≡ type-kind-at rows lists c (p .type) → s ≡ size-at rows c (p .type)
       → _≡_ {A = spec.Base} (record { storage = p .storage; offset = p .offset; word = type-word k; args = type-args lists k; size = s; is-bit = is-one (p .bit) }) (base-of (tables-of rows nodes lists c) p)
-  unfolding base-of type-line
-  base-read p e f = rw (type-at rows nodes lists c (p .type), size-here rows nodes lists c (p .type), e, f)
+  unfolding base-of
+  base-read p e f = rw (word-here rows nodes lists c (p .type), args-here rows nodes lists c R (p .type), size-here rows nodes lists c (p .type), e, f)
 
-  pub part-read : (b : spec.Base) (f : spec.Part) → k ≡ type-kind-at rows c (f .ty) → s ≡ size-at rows c (f .ty)
+  pub part-read : (b : spec.Base) (f : spec.Part) → k ≡ type-kind-at rows lists c (f .ty) → s ≡ size-at rows c (f .ty)
       → _≡_ {A = spec.Base} (record { storage = b .storage; offset = b .offset + f .offset; word = type-word k; args = type-args lists k; size = s; is-bit = false }) (part-of (tables-of rows nodes lists c) b f)
-  unfolding part-of type-line
-  part-read b f e g = rw (type-at rows nodes lists c (f .ty), size-here rows nodes lists c (f .ty), e, g)
+  unfolding part-of
+  part-read b f e g = rw (word-here rows nodes lists c (f .ty), args-here rows nodes lists c R (f .ty), size-here rows nodes lists c (f .ty), e, g)
 
 -- ---------------------------------------------------------------- answers that are bases
 

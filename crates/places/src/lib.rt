@@ -91,7 +91,7 @@ pub fn constant_usize(
     if depth == 0 {
         return Constant::Absent;
     }
-    match tables::node_at(nodes, counts, e) {
+    match tables::node_at(nodes, lists, counts, e) {
         NodeKind::Int(n) => Constant::Usize(n),
         _ => Constant::Absent,
     }
@@ -244,7 +244,7 @@ fn base_of(rows: &[u64], nodes: &[u64], lists: &[u64], counts: Counts, placed: P
     requires { ⌜ Readable (tables-of (now rows) (now nodes) (now lists) counts) ⌝ }
     ensures { λ r. ⌜ base-from (now (lists .entry)) r ≡ base-of (tables-of (now (rows .entry)) (now (nodes .entry)) (now (lists .entry)) counts) (placed-line placed) ⌝ }
 {
-    let kind = tables::type_at(rows, counts, placed.ty);
+    let kind = tables::type_at(rows, lists, counts, placed.ty);
     let size = tables::type_size(rows, counts, placed.ty);
     Base {
         storage: StorageId(placed.storage),
@@ -266,7 +266,7 @@ fn part_of(
     requires { ⌜ (Readable (tables-of (now rows) (now nodes) (now lists) counts)) × (base .offset + part .offset ≤ offset-limit) ⌝ }
     ensures { λ r. ⌜ base-from (now (lists .entry)) r ≡ part-of (tables-of (now (rows .entry)) (now (nodes .entry)) (now (lists .entry)) counts) (base-from (now (lists .entry)) base) (part-from part) ⌝ }
 {
-    let kind = tables::type_at(rows, counts, part.ty);
+    let kind = tables::type_at(rows, lists, counts, part.ty);
     let size = tables::type_size(rows, counts, part.ty);
     let storage = base.storage;
     Base {
@@ -307,7 +307,7 @@ fn variable_base(rows: &[u64], nodes: &[u64], lists: &[u64], counts: Counts, k: 
     requires { ⌜ Readable (tables-of (now rows) (now nodes) (now lists) counts) ⌝ }
     ensures { λ r. ⌜ Bases (tables-of (now (rows .entry)) (now (nodes .entry)) (now (lists .entry)) counts) (now (lists .entry)) (resolve-place-base (tables-of (now (rows .entry)) (now (nodes .entry)) (now (lists .entry)) counts) (variable k)) r ⌝ }
 {
-    let found = tables::variable_at(rows, counts, k);
+    let found = tables::variable_at(rows, lists, counts, k);
     placed_base(rows, nodes, lists, counts, found)
 }
 
@@ -315,7 +315,7 @@ fn static_base(rows: &[u64], nodes: &[u64], lists: &[u64], counts: Counts, k: u6
     requires { ⌜ Readable (tables-of (now rows) (now nodes) (now lists) counts) ⌝ }
     ensures { λ r. ⌜ Bases (tables-of (now (rows .entry)) (now (nodes .entry)) (now (lists .entry)) counts) (now (lists .entry)) (resolve-place-base (tables-of (now (rows .entry)) (now (nodes .entry)) (now (lists .entry)) counts) (static k)) r ⌝ }
 {
-    let found = tables::static_at(rows, counts, k);
+    let found = tables::static_at(rows, lists, counts, k);
     placed_base(rows, nodes, lists, counts, found)
 }
 
@@ -438,7 +438,7 @@ pub fn resolve_place_base(
     if depth == 0 {
         return variable_base(rows, nodes, lists, counts, 0);
     }
-    match tables::place_at(rows, counts, p) {
+    match tables::place_at(rows, lists, counts, p) {
         PlaceKind::Variable(k) => variable_base(rows, nodes, lists, counts, k),
         PlaceKind::Static(k) => static_base(rows, nodes, lists, counts, k),
         PlaceKind::Field(q, i) => {
@@ -517,7 +517,7 @@ fn variable_location(
     requires { ⌜ Readable (tables-of (now rows) (now nodes) (now lists) counts) ⌝ }
     ensures { λ r. ⌜ Locates (resolve-place (tables-of (now (rows .entry)) (now (nodes .entry)) (now (lists .entry)) counts) (variable k) ty) r ⌝ }
 {
-    let found = tables::variable_at(rows, counts, k);
+    let found = tables::variable_at(rows, lists, counts, k);
     placed_location(found, ty)
 }
 
@@ -532,7 +532,7 @@ fn static_location(
     requires { ⌜ Readable (tables-of (now rows) (now nodes) (now lists) counts) ⌝ }
     ensures { λ r. ⌜ Locates (resolve-place (tables-of (now (rows .entry)) (now (nodes .entry)) (now (lists .entry)) counts) (static k) ty) r ⌝ }
 {
-    let found = tables::static_at(rows, counts, k);
+    let found = tables::static_at(rows, lists, counts, k);
     placed_location(found, ty)
 }
 
@@ -640,7 +640,7 @@ pub fn resolve_place(
     if depth == 0 {
         return variable_location(rows, nodes, lists, counts, 0, ty);
     }
-    match tables::place_at(rows, counts, p) {
+    match tables::place_at(rows, lists, counts, p) {
         PlaceKind::Variable(k) => variable_location(rows, nodes, lists, counts, k, ty),
         PlaceKind::Static(k) => static_location(rows, nodes, lists, counts, k, ty),
         PlaceKind::Field(q, i) => {

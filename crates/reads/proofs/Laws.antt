@@ -135,7 +135,7 @@ room-rest {T} {ts} {us} {o} {b} {s} ty e g r d f l =
 
 module _ (rows nodes lists : List ℕ) (c : Counts) (R : TypesRight (tables-of rows nodes lists c)) (ty : ℕ) (s : State) where
   -- only a Bool appends
-  pub leaf-room : (l : Leaf) → reading-of (type-kind-at rows c ty) ≡ Reading.One l → Room (size-of (tables-of rows nodes lists c) ty + 1) (s .counters) → LeafRoom l s
+  pub leaf-room : (l : Leaf) → reading-of (type-kind-at rows lists c ty) ≡ Reading.One l → Room (size-of (tables-of rows nodes lists c) ty + 1) (s .counters) → LeafRoom l s
   leaf-room Leaf.Unit e r = tt
   leaf-room Leaf.Bool e r = rw (bool-size rows nodes lists c R ty e) at r
   leaf-room Leaf.Plain e r = tt

@@ -15,7 +15,7 @@ use Rattle.spec.specs.ReadBytes.{read-elements, read-fields, read-word, read-by
 use Rattle.tables.specs.declared.Counts.{Counts}
 use Rattle.tables.specs.declared.TypeKind.{TypeKind}
 use Rattle.tables.specs.Tables.{tab, run, type-kind-at, type-word, type-args, type-line, tables-of, size-at}
-use Rattle.tables.proofs.Laws.{type-at, size-here}
+use Rattle.tables.proofs.Laws.{Looks, type-at, size-here, word-here, args-here, looks-here}
 use Rattle.values.specs.Laws.{cons-to}
 use Rattle.reads.specs.declared.Leaf.{Leaf}
 use Rattle.reads.specs.declared.Parts.{Parts}
@@ -93,6 +93,19 @@ module _ (T : Tables) (rd : ℕ → ℕ → Lower Value) where
   word-reading lists s ty o (TypeKind.Tuple a n) = rw (fields-types lists a n)
   word-reading lists s ty o (TypeKind.Opaque a) = refl
 
+  looks-read : (s ty o : ℕ) → Looks (read-word T rd s ty o)
+  unfolding read-word
+  looks-read s ty o =
+      record {
+        unit = λ xs. refl;
+        bool = λ xs. refl;
+        bits = λ xs. refl;
+        float = λ xs. refl;
+        pointer = λ xs. refl;
+        array = λ xs. refl;
+        opaque = λ xs. refl;
+      }
+
 -- ---------------------------------------------------------------- sizes and weights, by the kind
 
 -- n, where the parts do not say it
@@ -128,51 +141,47 @@ weighed-as f lists (TypeKind.Opaque a) = refl
 -- ---------------------------------------------------------------- of the tables
 
 module _ (rows nodes lists : List ℕ) (c : Counts) where
-  kind-word : (ty : ℕ) → (typeAt (tables-of rows nodes lists c) ty) .word ≡ type-word (type-kind-at rows c ty)
-  unfolding type-line
-  kind-word ty = ap (λ (z : TypeLine). z .word) (type-at rows nodes lists c ty)
-
-  kind-args : (ty : ℕ) → (typeAt (tables-of rows nodes lists c) ty) .args ≡ type-args lists (type-kind-at rows c ty)
-  unfolding type-line
-  kind-args ty = ap (λ (z : TypeLine). z .args) (type-at rows nodes lists c ty)
-
   pub size-at-of : (ty : ℕ) → size-of (tables-of rows nodes lists c) ty ≡ size-at rows c ty
   unfolding type-line
   size-at-of ty = ap (λ (z : TypeLine). z .size) (type-at rows nodes lists c ty)
 
   -- reading at a depth that is not 0
-  pub read-here : (d s ty o : ℕ) (h : hir.At) (e : monad.Counters) (m : Reading) → (d ≡ 0 → ⊥) → reading-of (type-kind-at rows c ty) ≡ m
+  pub read-here : (d s ty o : ℕ) (h : hir.At) (e : monad.Counters) (m : Reading) → (d ≡ 0 → ⊥) → reading-of (type-kind-at rows lists c ty) ≡ m
       → read-bytes-as-type (tables-of rows nodes lists c) d s ty o h e
       ≡ reading-read (tables-of rows nodes lists c) lists (λ t p. read-bytes-as-type (tables-of rows nodes lists c) (d - 1) s t p) s ty o m h e
   unfolding read-bytes-as-type
   read-here zero s ty o h e m g k = absurd (g refl)
   read-here (suc d) s ty o h e m g k =
       let f : suc d - 1 ≡ d = omega arith in
-      rw (f, kind-word ty, kind-args ty, word-reading (tables-of rows nodes lists c) (λ t p. read-bytes-as-type (tables-of rows nodes lists c) d s t p) lists s ty o (type-kind-at rows c ty), k)
+      let T = tables-of rows nodes lists c in
+      let rd : ℕ → ℕ → Lower Value = λ t p. read-bytes-as-type T d s t p in
+      rw (f)
+      (ap (λ (x : Lower Value). x h e) (looks-here rows nodes lists c (looks-read T rd s ty o) ty ∙ word-reading T rd lists s ty o (type-kind-at rows lists c ty))
+      ∙ ap (λ (x : Reading). reading-read T lists rd s ty o x h e) k)
 
   module _ (R : TypesRight (tables-of rows nodes lists c)) where
-    sized-here : (ty : ℕ) → size-of (tables-of rows nodes lists c) ty ≡ type-size-by (size-of (tables-of rows nodes lists c)) (type-word (type-kind-at rows c ty)) (type-args lists (type-kind-at rows c ty))
-    sized-here ty = R .sized ty ∙ rw (kind-word ty, kind-args ty)
+    sized-here : (ty : ℕ) → size-of (tables-of rows nodes lists c) ty ≡ type-size-by (size-of (tables-of rows nodes lists c)) (type-word (type-kind-at rows lists c ty)) (type-args lists (type-kind-at rows lists c ty))
+    sized-here ty = R .sized ty ∙ rw (word-here rows nodes lists c ty, args-here rows nodes lists c R ty)
 
-    weighed-here : (ty : ℕ) → weight-of (tables-of rows nodes lists c) ty ≡ weight-by (weight-of (tables-of rows nodes lists c)) (type-word (type-kind-at rows c ty)) (type-args lists (type-kind-at rows c ty))
-    weighed-here ty = R .weighed ty ∙ rw (kind-word ty, kind-args ty)
+    weighed-here : (ty : ℕ) → weight-of (tables-of rows nodes lists c) ty ≡ weight-by (weight-of (tables-of rows nodes lists c)) (type-word (type-kind-at rows lists c ty)) (type-args lists (type-kind-at rows lists c ty))
+    weighed-here ty = R .weighed ty ∙ rw (word-here rows nodes lists c ty, args-here rows nodes lists c R ty)
 
-    pub bool-size : (ty : ℕ) → reading-of (type-kind-at rows c ty) ≡ Reading.One Leaf.Bool → size-of (tables-of rows nodes lists c) ty ≡ 1
-    bool-size ty e = let f = size-of (tables-of rows nodes lists c) in let k = type-kind-at rows c ty in
+    pub bool-size : (ty : ℕ) → reading-of (type-kind-at rows lists c ty) ≡ Reading.One Leaf.Bool → size-of (tables-of rows nodes lists c) ty ≡ 1
+    bool-size ty e = let f = size-of (tables-of rows nodes lists c) in let k = type-kind-at rows lists c ty in
         sized-here ty ∙ sized-as f lists k ∙ ap (λ (z : Reading). told lists (sum f) z (type-size-by f (type-word k) (type-args lists k))) e
 
-    pub parts-size : (ty : ℕ) (p : Parts) (n : ℕ) → reading-of (type-kind-at rows c ty) ≡ Reading.Many p n
+    pub parts-size : (ty : ℕ) (p : Parts) (n : ℕ) → reading-of (type-kind-at rows lists c ty) ≡ Reading.Many p n
         → size-of (tables-of rows nodes lists c) ty ≡ sum (size-of (tables-of rows nodes lists c)) (part-types lists p 0 n)
-    parts-size ty p n e = let f = size-of (tables-of rows nodes lists c) in let k = type-kind-at rows c ty in
+    parts-size ty p n e = let f = size-of (tables-of rows nodes lists c) in let k = type-kind-at rows lists c ty in
         sized-here ty ∙ sized-as f lists k ∙ ap (λ (z : Reading). told lists (sum f) z (type-size-by f (type-word k) (type-args lists k))) e
 
-    pub parts-weight : (ty : ℕ) (p : Parts) (n : ℕ) → reading-of (type-kind-at rows c ty) ≡ Reading.Many p n
+    pub parts-weight : (ty : ℕ) (p : Parts) (n : ℕ) → reading-of (type-kind-at rows lists c ty) ≡ Reading.Many p n
         → weight-of (tables-of rows nodes lists c) ty ≡ 1 + sum (weight-of (tables-of rows nodes lists c)) (part-types lists p 0 n)
-    parts-weight ty p n e = let f = weight-of (tables-of rows nodes lists c) in let k = type-kind-at rows c ty in
+    parts-weight ty p n e = let f = weight-of (tables-of rows nodes lists c) in let k = type-kind-at rows lists c ty in
         weighed-here ty ∙ weighed-as f lists k ∙ ap (λ (z : Reading). told lists (λ ts. 1 + sum f ts) z (weight-by f (type-word k) (type-args lists k))) e
 
     -- no type has more parts than it weighs
-    pub parts-few : (ty : ℕ) (p : Parts) (n : ℕ) → reading-of (type-kind-at rows c ty) ≡ Reading.Many p n → n ≤ 4096
+    pub parts-few : (ty : ℕ) (p : Parts) (n : ℕ) → reading-of (type-kind-at rows lists c ty) ≡ Reading.Many p n → n ≤ 4096
     unfolding part-types
     parts-few ty p n e =
         let l = sum-least (weight-of (tables-of rows nodes lists c)) (weight-least (tables-of rows nodes lists c) R) (part-types lists p 0 n) in

@@ -23,7 +23,7 @@ use Rattle.reads.specs.declared.Parts.{Parts}
 use Rattle.reads.specs.declared.Reading.{Reading}
 
 abbrev pub at-of : At → hir.At
-at-of h = record { line = h .line; node = h .node; ty = h .ty }
+at-of h = record { line = h .line; node = h .node .0; ty = h .ty }
 
 -- ---------------------------------------------------------------- how a type is read
 
@@ -83,6 +83,11 @@ pub record TypeRoom (T : Tables) (ty o : ℕ) (s : State) (stack : List ℕ) : T
   pub room : Room (size-of T ty + 1) (s .counters)
   pub top : s .top + 8 * weight-of T ty ≤ length stack + 8
   pub reach : o + size-of T ty ≤ 4294967296
+
+-- for a node's own step at the type ty: more of each counter than any step uses, and the records of a value of that type but the first
+pub record StepRoom (T : Tables) (ty : ℕ) (s : State) (stack : List ℕ) : Type 0 where
+  pub room : Room 4096 (s .counters)
+  pub top : s .top + 8 * weight-of T ty ≤ length stack + 8
 
 -- to read parts of the types ts: a record for each value
 pub record PartsRoom (T : Tables) (ts : List ℕ) (o : ℕ) (s : State) (stack : List ℕ) : Type 0 where

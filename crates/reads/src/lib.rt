@@ -29,10 +29,13 @@ ghost use Rattle.tables.specs.Tables.{type-kind-at, size-at, tables-of, Sized};
 ghost use Rattle.values.specs.Left.{bufs, counters-in, value-words, MeetsValue, MeetsList};
 ghost use Rattle.reads.specs.Reading.{at-of, reading-of, part-type, part-types, leaf-read, plain-of, gathered-of, LeafRoom, TypeRoom, PartsRoom};
 
+// A node's number.
+pub struct NodeId(pub u64);
+
 // The node whose own step it is.
 pub struct At {
     pub line: u64,
-    pub node: u64,
+    pub node: NodeId,
     pub ty: u64,
 }
 
@@ -78,11 +81,11 @@ fn reading_of(kind: TypeKind) -> Reading
     }
 }
 
-fn reading_at(rows: &[u64], counts: Counts, ty: u64) -> Reading
+fn reading_at(rows: &[u64], lists: &[u64], counts: Counts, ty: u64) -> Reading
     requires { ⌜ Sized counts ⌝ }
-    ensures { λ r. ⌜ r ≡ reading-of (type-kind-at (now (rows .entry)) counts ty) ⌝ }
+    ensures { λ r. ⌜ r ≡ reading-of (type-kind-at (now (rows .entry)) (now (lists .entry)) counts ty) ⌝ }
 {
-    reading_of(tables::type_at(rows, counts, ty))
+    reading_of(tables::type_at(rows, lists, counts, ty))
 }
 
 fn part_type(lists: &[u64], parts: Parts, i: u64) -> u64
@@ -180,7 +183,7 @@ fn records_between(from: usize, to: usize) -> u64
 }
 
 // The head of an aggregate whose n parts were read.
-fn gathered(ty: u64, n: u64, from: usize, listed: Listed) -> Lowered
+pub fn gathered(ty: u64, n: u64, from: usize, listed: Listed) -> Lowered
     ensures { λ r. ⌜ r ≡ gathered-of ty n from listed ⌝ }
 {
     match listed {
@@ -196,7 +199,7 @@ fn gathered(ty: u64, n: u64, from: usize, listed: Listed) -> Lowered
 }
 
 // Stores a part's head.
-fn store_head(stack: &mut [u64], at: usize, v: Value)
+pub fn store_head(stack: &mut [u64], at: usize, v: Value)
     requires { do ⌜ at + 8 ≤ (← ⟦stack.len()⟧) ⌝ }
     ensures { λ _. ⌜ now (stack .exit) ≡ sets (now (stack .entry)) at (value-words v) ⌝ }
 {
@@ -211,7 +214,7 @@ pub fn read_bytes_as_type(rows: &[u64], nodes: &[u64], lists: &[u64], counts: Co
     if depth == 0 {
         return Lowered::Refused(23, h.line);
     }
-    let reading = reading_at(rows, counts, ty);
+    let reading = reading_at(rows, lists, counts, ty);
     match reading {
         Reading::One(leaf) => read_leaf(rows, counts, code, store, s, storage, ty, o, leaf, h),
         Reading::Many(parts, n) => {

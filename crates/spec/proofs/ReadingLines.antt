@@ -76,7 +76,7 @@ use Rattle.spec.specs.Forms.{
   lineOf,
   values,
 }
-use Rattle.spec.specs.Readable.{All, type-parts, nodes-of-node}
+use Rattle.spec.specs.Readable.{All, type-parts, nodes-of-node, Counted}
 use Rattle.spec.proofs.ReadingTests.{none≢some}
 use Rattle.spec.proofs.ReadingForms.{Args, done, next, part-values, node-values, all-parts, all-nodes, some-is, args-formed, found}
 
@@ -97,6 +97,7 @@ Width tOpaque xa = Unit {0}
 pub record TypeFormed (w : TypeWord) (xa : List Arg) : Type 0 where
   pub parts : type-parts w (values xa) ≡ part-values xa
   pub width : Width w xa
+  pub counted : Counted w (values xa)
 
 -- a node's TYPE, and then what the word asks for
 pub data NodeFormed (w : NodeWord) : List Arg → Type 0 where
@@ -126,25 +127,29 @@ TypeRule : Rule TypeWord → Type 0
 TypeRule r = (xa : List Arg) → Args (r .fields) (r .rest) xa → TypeFormed (r .make) xa
 
 type-rules-formed : All TypeRule type-rules
-unfolding All TypeRule type-parts
+unfolding All TypeRule type-parts Counted
 type-rules-formed = (
-  λ xa h. filled (λ ya. TypeFormed tUnit ya) (record { parts = refl; width = tt }) h,
+  λ xa h. filled (λ ya. TypeFormed tUnit ya) (record { parts = refl; width = tt; counted = refl }) h,
   (
-    λ xa h. filled (λ ya. TypeFormed tBool ya) (record { parts = refl; width = tt }) h,
+    λ xa h. filled (λ ya. TypeFormed tBool ya) (record { parts = refl; width = tt; counted = refl }) h,
     (
-      λ xa h. record { parts = filled (λ ya. type-parts tBits (values ya) ≡ part-values ya) (λ x. refl) h; width = h },
+      λ xa h. record {
+        parts = filled (λ ya. type-parts tBits (values ya) ≡ part-values ya) (λ x. refl) h;
+        width = h;
+        counted = filled (λ ya. Counted tBits (values ya)) (λ x. refl) h;
+      },
       (
-        λ xa h. filled (λ ya. TypeFormed tFloat ya) (λ x. record { parts = refl; width = tt }) h,
+        λ xa h. filled (λ ya. TypeFormed tFloat ya) (λ x. record { parts = refl; width = tt; counted = refl }) h,
         (
-          λ xa h. filled (λ ya. TypeFormed tPointer ya) (record { parts = refl; width = tt }) h,
+          λ xa h. filled (λ ya. TypeFormed tPointer ya) (record { parts = refl; width = tt; counted = refl }) h,
           (
-            λ xa h. filled (λ ya. TypeFormed tArray ya) (λ x y. record { parts = refl; width = tt }) h,
+            λ xa h. filled (λ ya. TypeFormed tArray ya) (λ x y. record { parts = refl; width = tt; counted = refl }) h,
             (
-              λ xa h. record { parts = all-parts h; width = tt },
+              λ xa h. record { parts = all-parts h; width = tt; counted = tt },
               (
-                λ xa h. record { parts = all-parts h; width = tt },
+                λ xa h. record { parts = all-parts h; width = tt; counted = tt },
                 (
-                  λ xa h. filled (λ ya. TypeFormed tOpaque ya) (λ x. record { parts = refl; width = tt }) h,
+                  λ xa h. filled (λ ya. TypeFormed tOpaque ya) (λ x. record { parts = refl; width = tt; counted = refl }) h,
                   tt,
                 ),
               ),

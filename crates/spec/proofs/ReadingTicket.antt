@@ -153,6 +153,7 @@ types-right R g one =
       two = two;
       bool-first = g .types .start .bool-first (omega arith);
       pointer-second = g .types .start .pointer-second two;
+      counted = λ ty. (g .types .right ty) .counted;
       sized = λ ty. (g .types .right ty) .sized;
       weighed = λ ty. (g .types .right ty) .weighed;
       width-least = λ ty. (g .types .right ty) .width-least;

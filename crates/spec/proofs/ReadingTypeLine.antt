@@ -106,6 +106,7 @@ new-type R w xa f e =
     let p = passed _ _ _ _ _ _ _ _ _ e in
     let small : Bool = leb (size-of T w (values xa)) type-size-limit in
     record {
+      counted = f .counted;
       sized = refl;
       weighed = refl;
       width-least = λ q. (width R w xa (rw q at (f .width)) e) .0;

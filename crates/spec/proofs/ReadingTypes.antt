@@ -27,7 +27,7 @@ use Rattle.spec.specs.Ticket.{
   weight-by,
   type-size-in,
 }
-use Rattle.spec.specs.Readable.{All, All-below, type-parts}
+use Rattle.spec.specs.Readable.{All, All-below, type-parts, Counted}
 use Rattle.spec.proofs.ReadingLists.{All-map, All-both, below-all, sum-same}
 
 abbrev pub at : List TypeLine → ℕ → TypeLine
@@ -40,6 +40,7 @@ abbrev pub weight-at : List TypeLine → ℕ → ℕ
 weight-at ts k = (at ts k) .weight
 
 pub record TypeRight (ts : List TypeLine) (k : ℕ) (t : TypeLine) : Type 0 where
+  pub counted : Counted (t .word) (t .args)
   pub sized : t .size ≡ type-size-by (size-at ts) (t .word) (t .args)
   pub weighed : t .weight ≡ weight-by (weight-at ts) (t .word) (t .args)
   pub width-least : t .word ≡ tBits → 1 ≤ arg (t .args) 0
@@ -93,6 +94,7 @@ kept ts t k u h r =
     let e : All (λ i. at ts i ≡ at ts′ i) xs =
     below-all k (λ i. at ts i ≡ at ts′ i) xs (λ i p. sym (List·getD-append ts (t ∷ []) noType i (omega arith))) (r .parts-earlier) in
     record {
+      counted = r .counted;
       sized = r .sized ∙ size-by-parts (size-at ts) (size-at ts′) (u .word) (u .args) (All-map xs (λ i p. ap (λ (v : TypeLine). v .size) p) e);
       weighed =
           r .weighed ∙ weight-by-parts (weight-at ts) (weight-at ts′) (u .word) (u .args) (All-map xs (λ i p. ap (λ (v : TypeLine). v .weight) p) e);
@@ -107,9 +109,10 @@ kept ts t k u h r =
     }
 
 pub no-type-right : (ts : List TypeLine) (k : ℕ) → TypeRight ts k noType
-unfolding All All-below type-parts
+unfolding All All-below type-parts Counted
 no-type-right ts k =
     record {
+      counted = refl;
       sized = refl;
       weighed = refl;
       width-least = λ e. let z : _≡_ {A = ℕ} 0 1 = cc in omega arith;

@@ -7,7 +7,7 @@ use borrow.Author.Tests.{lt-ltb}
 use Rattle.spec.specs.Hir.{Expr, integer, read, integer-binary, variable}
 use Rattle.spec.specs.Hir as hir
 use Rattle.spec.specs.Ticket.{typeAt, arg, tBits, nowhere}
-use Rattle.spec.specs.Readable.{TypesRight, All-below, type-parts}
+use Rattle.spec.specs.Readable.{TypesRight, All-below, type-parts, Counted}
 use Rattle.spec.specs.Lir.{stored, Value}
 use Rattle.spec.specs.Monad.{Counters, Out, done}
 use Rattle.spec.specs.Allocation.{bytes-from}
@@ -40,11 +40,12 @@ no-bits : {A : Type 0} → _≡_ {A = ℕ} 0 1 → A
 no-bits z = absurd (omega arith)
 
 pub types-right : TypesRight T
-unfolding All-below type-parts
+unfolding All-below type-parts Counted
 types-right = record {
   two = omega arith;
   bool-first = refl;
   pointer-second = refl;
+  counted = nine (λ ty. Counted ((typeAt T ty) .word) ((typeAt T ty) .args)) refl refl refl refl refl refl refl refl refl (λ n. refl);
   sized = nine _ refl refl refl refl refl refl refl refl refl (λ n. refl);
   weighed = nine _ refl refl refl refl refl refl refl refl refl (λ n. refl);
   width-least =

@@ -140,11 +140,24 @@ All-below n (x ∷ xs) = (x < n) × All-below n xs
 
 -- ---------------------------------------------------------------- types
 
+-- as many numbers as the word takes
+unfoldable pub Counted : TypeWord → List ℕ → Type 0
+Counted tUnit xs = length xs ≡ 0
+Counted tBool xs = length xs ≡ 0
+Counted tBits xs = length xs ≡ 1
+Counted tFloat xs = length xs ≡ 1
+Counted tPointer xs = length xs ≡ 0
+Counted tArray xs = length xs ≡ 2
+Counted tStruct xs = Unit {0}
+Counted tTuple xs = Unit {0}
+Counted tOpaque xs = length xs ≡ 1
+
 -- every type line, and what stands at a number that no line has
 pub record TypesRight (T : Tables) : Type 0 where
   pub two : 2 ≤ length (T .types)
   pub bool-first : (typeAt T 0) .word ≡ tBool
   pub pointer-second : (typeAt T 1) .word ≡ tPointer
+  pub counted : (ty : ℕ) → Counted ((typeAt T ty) .word) ((typeAt T ty) .args)
   pub sized : (ty : ℕ) → (typeAt T ty) .size ≡ type-size-by (λ t. (typeAt T t) .size) ((typeAt T ty) .word) ((typeAt T ty) .args)
   pub weighed : (ty : ℕ) → (typeAt T ty) .weight ≡ weight-by (λ t. (typeAt T t) .weight) ((typeAt T ty) .word) ((typeAt T ty) .args)
   pub width-least : (ty : ℕ) → (typeAt T ty) .word ≡ tBits → 1 ≤ arg ((typeAt T ty) .args) 0

@@ -37,7 +37,7 @@ use Rattle.emission.specs.Does.{Does, Refuses, out}
 use Rattle.emission.specs.Forms.{HasWidth, width-option, width-refused, comparing, comparing-zero, compare-behind, not-zero-behind}
 use Rattle.tables.specs.declared.Counts.{Counts}
 use Rattle.tables.specs.Tables.{type-kind-at, type-word, type-args, tables-of, size-at}
-use Rattle.tables.proofs.Laws.{word-here, args-here, size-here}
+use Rattle.tables.proofs.Laws.{Looks, looks-here, size-here}
 use Rattle.places.specs.declared.Resolved.{Resolved}
 use Rattle.places.specs.declared.Location.{Location as Loc}
 use Rattle.places.specs.Answers.{Answer, Answers, outcome-of}
@@ -99,9 +99,21 @@ type-in ty (Rep.Aggregate n m) = refl
 pub wide : {T : Tables} {w : Width} (v : Val) → HasWidth T (v .ty) w → HasWidth T (value-type (flat-of (head-of v))) w
 wide {T} {w} v h = subst (λ (t : ℕ). HasWidth T t w) (sym (type-in (v .ty) (v .repr))) h
 
-pub has-width : (rows nodes lists : List ℕ) (c : Counts) (ty : ℕ) {w : Width} → width-of (type-word (type-kind-at rows c ty)) (type-args lists (type-kind-at rows c ty)) ≡ width-option w
+looks-width : Looks width-of
+looks-width =
+    record {
+      unit = λ xs. refl;
+      bool = λ xs. refl;
+      bits = λ xs. refl;
+      float = λ xs. refl;
+      pointer = λ xs. refl;
+      array = λ xs. refl;
+      opaque = λ xs. refl;
+    }
+
+pub has-width : (rows nodes lists : List ℕ) (c : Counts) (ty : ℕ) {w : Width} → width-of (type-word (type-kind-at rows lists c ty)) (type-args lists (type-kind-at rows lists c ty)) ≡ width-option w
     → HasWidth (tables-of rows nodes lists c) ty w
-has-width rows nodes lists c ty e = record { is = rw (word-here rows nodes lists c ty, args-here rows nodes lists c ty) e }
+has-width rows nodes lists c ty e = record { is = looks-here rows nodes lists c looks-width ty ∙ e }
 
 -- ---------------------------------------------------------------- a new bit
 

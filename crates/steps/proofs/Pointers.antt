@@ -60,7 +60,7 @@ module _ (T : Tables) (R : TypesRight T) where
   unfolding type-size
   pointer-size = R .sized 1 ∙ rw (R .pointer-second)
 
-  pointer-read : (k : ℕ) (h : hir.At) (c : monad.Counters) → read-location T (location k 1) h c ≡ done (pointer-of k) c nothing
+  pub pointer-read : (k : ℕ) (h : hir.At) (c : monad.Counters) → read-location T (location k 1) h c ≡ done (pointer-of k) c nothing
   unfolding read-location read-bytes-as-type read-word read-plain pointer-of
   pointer-read k h c = rw (R .pointer-second, pointer-size)
 
@@ -81,8 +81,8 @@ module _ (T : Tables) (R : TypesRight T) where
       does-allocating (λ t. (location-bytes T t >>= λ ds. (emit (i (first-storage ds) (second-storage T ds)) >> read-location T t)))
       (omega arith) (omega arith) (place-sized T 1 2 (λ z. omega arith) pointer-size a) e (λ h d. filled-behind i k h d)
 
-pub pointer-meets : {code store code′ store′ : List ℕ} {s : State} {c2 : Counters} {x : Lowered} {m : Lower Value} (id : StorageId) (h : hir.At) (n stack : List ℕ)
-    → Does 1 (texts code store) (s .counters) m (pointer-of (id .0)) (texts code′ store′) c2 → x ≡ Lowered.Done (pointer-in id) (record { counters = c2; top = s .top })
+pub pointer-meets : {k : ℕ} {code store code′ store′ : List ℕ} {s : State} {c2 : Counters} {x : Lowered} {m : Lower Value} (id : StorageId) (h : hir.At) (n stack : List ℕ)
+    → Does k (texts code store) (s .counters) m (pointer-of (id .0)) (texts code′ store′) c2 → x ≡ Lowered.Done (pointer-in id) (record { counters = c2; top = s .top })
     → MeetsValue (bufs code store n stack) s (m h (counters-in s)) (bufs code′ store′ n stack) x
 unfolding pointer-of
 pointer-meets {s = s} id h n stack d p =
@@ -130,20 +130,20 @@ module _ {code store code′ store′ : List ℕ} {s : State} {c2 : Counters} (T
       (record { shown = (pointer-head id, record { reach-most = omega arith; total-most = omega arith }, left-does {s = s} n stack h d) })
 
 pub address-meets : {code store code′ store′ : List ℕ} {s : State} {c1 c2 : Counters} {x : Lowered} (rows nodes lists : List ℕ) (c : Counts) (k o : ℕ) (b : Bool) (id : StorageId) (h : hir.At) (n n′ stack : List ℕ)
-    → TypesRight (tables-of rows nodes lists c) → b ≡ false → n′ ≡ marked n (narrowed-by (is-one (owner-at rows c k)) k)
+    → TypesRight (tables-of rows nodes lists c) → b ≡ false → n′ ≡ marked n (narrowed-by (is-one (owner-at rows lists c k)) k)
     → Allocates store (s .counters) (allocate-sized 2) (id .0) store′ c1 → Emits code c1 (address-of (byte-of (id .0) 0) (byte-of (id .0) 1) k o ∷ []) code′ c2
     → x ≡ Lowered.Done (pointer-in id) (record { counters = c2; top = s .top })
     → MeetsValue (bufs code store n stack) s (materialize-location-address (tables-of rows nodes lists c) k b o h (counters-in s)) (bufs code′ store′ n′ stack) x
 address-meets {s = s} rows nodes lists c k o b id h n n′ stack R f q a e p =
     rw (p, f)
     (narrowing {s = s} (tables-of rows nodes lists c) R k o id h n n′ stack (filled-does (tables-of rows nodes lists c) R (λ x y. address-of x y k o) (id .0) a e)
-    (is-one (owner-at rows c k)) (ap is-one (owner-here rows nodes lists c k)) q)
+    (is-one (owner-at rows lists c k)) (ap is-one (owner-here rows nodes lists c k)) q)
 
 pub address-refused : (T : Tables) (k o : ℕ) (b : Bool) (h : hir.At) (c : monad.Counters) → b ≡ true → materialize-location-address T k b o h c ≡ refused 21 (h .line)
 unfolding materialize-location-address require _>>_
 address-refused T k o b h c e = rw e
 
-module _ (rows nodes lists : List ℕ) (c : Counts) (k o : ℕ) (h : hir.At) (m : monad.Counters) {r : PlacedAt} (e : nth (statics-of rows c) k ≡ placed-option r) where
+module _ (rows nodes lists : List ℕ) (c : Counts) (k o : ℕ) (h : hir.At) (m : monad.Counters) {r : PlacedAt} (e : nth (statics-of rows lists c) k ≡ placed-option r) where
   pub static-missing : r ≡ PlacedAt.Missing → lower-static-address (tables-of rows nodes lists c) k o h m ≡ refused 20 (h .line)
   unfolding lower-static-address or-refuse _>>=_
   static-missing q = rw (nth-static rows nodes lists c k, e, q)
@@ -168,14 +168,14 @@ module _ (T : Tables) (lists : List ℕ) (d p : ℕ) (h : hir.At) (c : monad.Cou
 pub meets-as : {b b1 : Bufs} {s : State} {o p : Outcome Value} {x : Lowered} → o ≡ p → MeetsValue b s p b1 x → MeetsValue b s o b1 x
 meets-as e m = rw e m
 
-module _ (l rows : List ℕ) (c : Counts) (s : ℕ) {w : ℕ} (e : w ≡ owner-at rows c s) where
-  pub narrow-in : w ≡ 1 → set l s 1 ≡ marked l (narrowed-by (is-one (owner-at rows c s)) s)
+module _ (l rows lists : List ℕ) (c : Counts) (s : ℕ) {w : ℕ} (e : w ≡ owner-at rows lists c s) where
+  pub narrow-in : w ≡ 1 → set l s 1 ≡ marked l (narrowed-by (is-one (owner-at rows lists c s)) s)
   unfolding marked
-  narrow-in q = let g : owner-at rows c s ≡ 1 = sym e ∙ q in rw g
+  narrow-in q = let g : owner-at rows lists c s ≡ 1 = sym e ∙ q in rw g
 
-  pub narrow-out : w ≡ 1 → length l ≤ s → l ≡ marked l (narrowed-by (is-one (owner-at rows c s)) s)
+  pub narrow-out : w ≡ 1 → length l ≤ s → l ≡ marked l (narrowed-by (is-one (owner-at rows lists c s)) s)
   narrow-out q h = sym (set-out l s 1 h) ∙ narrow-in q
 
-  pub narrow-not : (w ≡ 1 → ⊥) → l ≡ marked l (narrowed-by (is-one (owner-at rows c s)) s)
+  pub narrow-not : (w ≡ 1 → ⊥) → l ≡ marked l (narrowed-by (is-one (owner-at rows lists c s)) s)
   unfolding marked
-  narrow-not h = rw (ne-eqb (owner-at rows c s) 1 (λ z. h (e ∙ z)))
+  narrow-not h = rw (ne-eqb (owner-at rows lists c s) 1 (λ z. h (e ∙ z)))

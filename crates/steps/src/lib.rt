@@ -157,11 +157,11 @@ fn width_of(kind: TypeKind) -> Width
     }
 }
 
-pub fn integer_width(rows: &[u64], counts: Counts, ty: u64) -> Width
+pub fn integer_width(rows: &[u64], lists: &[u64], counts: Counts, ty: u64) -> Width
     requires { ⌜ Sized counts ⌝ }
-    ensures { λ r. ⌜ ((nodes lists : List ℕ) → HasWidth (tables-of (now (rows .entry)) nodes lists counts) ty r) ⌝ }
+    ensures { λ r. ⌜ ((nodes : List ℕ) → HasWidth (tables-of (now (rows .entry)) nodes (now (lists .entry)) counts) ty r) ⌝ }
 {
-    width_of(tables::type_at(rows, counts, ty))
+    width_of(tables::type_at(rows, lists, counts, ty))
 }
 
 // ---------------------------------------------------------------- bits
@@ -199,11 +199,11 @@ fn bit_operand(s: State, new: Allocated) -> BitLowered
 }
 
 // Whether a number is not 0, as a new bit.
-fn not_zero(rows: &[u64], counts: Counts, code: &mut [u8], store: &mut [u8], c: Counters, purpose: Purpose, v: Value) -> Temporary
+fn not_zero(rows: &[u64], lists: &[u64], counts: Counts, code: &mut [u8], store: &mut [u8], c: Counters, purpose: Purpose, v: Value) -> Temporary
     requires { ⌜ (Sized counts) × (Sound-value v) × (Room 2 c) ⌝ }
-    ensures { λ r. ⌜ ((nodes lists : List ℕ) → MeetsNew (texts (now (code .entry)) (now (store .entry))) c (not-zero (tables-of (now (rows .entry)) nodes lists counts) (purpose-of purpose) (flat-of (head-of v))) (texts (now (code .exit)) (now (store .exit))) r) ⌝ }
+    ensures { λ r. ⌜ ((nodes : List ℕ) → MeetsNew (texts (now (code .entry)) (now (store .entry))) c (not-zero (tables-of (now (rows .entry)) nodes (now (lists .entry)) counts) (purpose-of purpose) (flat-of (head-of v))) (texts (now (code .exit)) (now (store .exit))) r) ⌝ }
 {
-    match integer_width(rows, counts, v.ty) {
+    match integer_width(rows, lists, counts, v.ty) {
         Width::Absent => Temporary::Refused(23),
         Width::Found(width) => match value_bytes(v) {
             Operand::Absent => Temporary::Refused(24),
@@ -213,26 +213,26 @@ fn not_zero(rows: &[u64], counts: Counts, code: &mut [u8], store: &mut [u8], c: 
 }
 
 // A value as a bit: its own, or whether it is not 0.
-pub fn value_as_bit(rows: &[u64], counts: Counts, code: &mut [u8], store: &mut [u8], s: State, v: Value, h: At) -> BitLowered
+pub fn value_as_bit(rows: &[u64], lists: &[u64], counts: Counts, code: &mut [u8], store: &mut [u8], s: State, v: Value, h: At) -> BitLowered
     requires { ⌜ (Sized counts) × (Sound-value v) × (Room 2 (s .counters)) ⌝ }
-    ensures { λ r. ⌜ ((nodes lists n stack : List ℕ) → MeetsBit (bufs (now (code .entry)) (now (store .entry)) n stack) s (value-as-bit (tables-of (now (rows .entry)) nodes lists counts) (flat-of (head-of v)) (at-of h) (counters-in s)) (bufs (now (code .exit)) (now (store .exit)) n stack) r) ⌝ }
+    ensures { λ r. ⌜ ((nodes n stack : List ℕ) → MeetsBit (bufs (now (code .entry)) (now (store .entry)) n stack) s (value-as-bit (tables-of (now (rows .entry)) nodes (now (lists .entry)) counts) (flat-of (head-of v)) (at-of h) (counters-in s)) (bufs (now (code .exit)) (now (store .exit)) n stack) r) ⌝ }
 {
     let counters = s.counters;
     match value_bit(v) {
         Flag::Bit(b) => BitLowered::Done(b, s),
-        Flag::Absent => match not_zero(rows, counts, code, store, counters, Purpose::Condition, v) {
+        Flag::Absent => match not_zero(rows, lists, counts, code, store, counters, Purpose::Condition, v) {
             Temporary::Refused(n) => BitLowered::Refused(n, h.line),
             Temporary::Placed(new) => bit_operand(s, new),
         },
     }
 }
 
-pub fn integer_to_bool(rows: &[u64], counts: Counts, code: &mut [u8], store: &mut [u8], s: State, v: Value, h: At) -> Lowered
+pub fn integer_to_bool(rows: &[u64], lists: &[u64], counts: Counts, code: &mut [u8], store: &mut [u8], s: State, v: Value, h: At) -> Lowered
     requires { ⌜ (Sized counts) × (Sound-value v) × (Room 2 (s .counters)) ⌝ }
-    ensures { λ r. ⌜ ((nodes lists n stack : List ℕ) → MeetsValue (bufs (now (code .entry)) (now (store .entry)) n stack) s (integer-to-bool (tables-of (now (rows .entry)) nodes lists counts) (flat-of (head-of v)) (at-of h) (counters-in s)) (bufs (now (code .exit)) (now (store .exit)) n stack) r) ⌝ }
+    ensures { λ r. ⌜ ((nodes n stack : List ℕ) → MeetsValue (bufs (now (code .entry)) (now (store .entry)) n stack) s (integer-to-bool (tables-of (now (rows .entry)) nodes (now (lists .entry)) counts) (flat-of (head-of v)) (at-of h) (counters-in s)) (bufs (now (code .exit)) (now (store .exit)) n stack) r) ⌝ }
 {
     let counters = s.counters;
-    match not_zero(rows, counts, code, store, counters, Purpose::IntegerToBoolean, v) {
+    match not_zero(rows, lists, counts, code, store, counters, Purpose::IntegerToBoolean, v) {
         Temporary::Refused(n) => Lowered::Refused(n, h.line),
         Temporary::Placed(new) => bit_value(s, new),
     }
@@ -278,11 +278,11 @@ fn compared(code: &mut [u8], store: &mut [u8], s: State, op: Comparison, width: 
 }
 
 // The width is looked at before the operands, and the operator last.
-pub fn lower_compare(rows: &[u64], counts: Counts, code: &mut [u8], store: &mut [u8], s: State, op: u64, l: Value, r: Value, h: At) -> Lowered
+pub fn lower_compare(rows: &[u64], lists: &[u64], counts: Counts, code: &mut [u8], store: &mut [u8], s: State, op: u64, l: Value, r: Value, h: At) -> Lowered
     requires { ⌜ (Sized counts) × (Sound-value l) × (Sound-value r) × (Room 2 (s .counters)) ⌝ }
-    ensures { λ res. ⌜ ((nodes lists n stack : List ℕ) → MeetsValue (bufs (now (code .entry)) (now (store .entry)) n stack) s (lower-compare (tables-of (now (rows .entry)) nodes lists counts) (ticket.compare-op op) (flat-of (head-of l)) (flat-of (head-of r)) (at-of h) (counters-in s)) (bufs (now (code .exit)) (now (store .exit)) n stack) res) ⌝ }
+    ensures { λ res. ⌜ ((nodes n stack : List ℕ) → MeetsValue (bufs (now (code .entry)) (now (store .entry)) n stack) s (lower-compare (tables-of (now (rows .entry)) nodes (now (lists .entry)) counts) (ticket.compare-op op) (flat-of (head-of l)) (flat-of (head-of r)) (at-of h) (counters-in s)) (bufs (now (code .exit)) (now (store .exit)) n stack) res) ⌝ }
 {
-    match integer_width(rows, counts, l.ty) {
+    match integer_width(rows, lists, counts, l.ty) {
         Width::Absent => Lowered::Refused(23, h.line),
         Width::Found(width) => match value_bytes(l) {
             Operand::Absent => Lowered::Refused(24, h.line),
@@ -310,7 +310,7 @@ pub fn lower_read(rows: &[u64], nodes: &[u64], lists: &[u64], counts: Counts, co
 // ---------------------------------------------------------------- addresses
 
 // The two bytes of a new pointer, as a value.
-fn pointer_value(s: State, id: StorageId, counters: Counters) -> Lowered
+pub fn pointer_value(s: State, id: StorageId, counters: Counters) -> Lowered
     ensures { λ r. ⌜ r ≡ Lowered.Done (pointer-in id) (record { counters = counters; top = s .top }) ⌝ }
 {
     Lowered::Done(
@@ -342,11 +342,11 @@ pub fn lower_function_address(code: &mut [u8], store: &mut [u8], s: State, f: u6
 }
 
 // Marks a storage of the function's own.
-fn narrow(rows: &[u64], counts: Counts, narrowed: &mut [u64], s: u64)
+fn narrow(rows: &[u64], lists: &[u64], counts: Counts, narrowed: &mut [u64], s: u64)
     requires { ⌜ Sized counts ⌝ }
-    ensures { λ _. ⌜ now (narrowed .exit) ≡ marked (now (narrowed .entry)) (narrowed-by (is-one (owner-at (now (rows .entry)) counts s)) s) ⌝ }
+    ensures { λ _. ⌜ now (narrowed .exit) ≡ marked (now (narrowed .entry)) (narrowed-by (is-one (owner-at (now (rows .entry)) (now (lists .entry)) counts s)) s) ⌝ }
 {
-    let owner = tables::storage_owner(rows, counts, s);
+    let owner = tables::storage_owner(rows, lists, counts, s);
     if owner == 1 {
         let at = s as usize;
         if at < narrowed.len() {
@@ -356,14 +356,14 @@ fn narrow(rows: &[u64], counts: Counts, narrowed: &mut [u64], s: u64)
 }
 
 // The address of byte o of a storage, in a new pointer; a bit has none.
-fn storage_address(rows: &[u64], counts: Counts, code: &mut [u8], store: &mut [u8], narrowed: &mut [u64], s: State, storage: StorageId, bit: bool, o: u64, h: At) -> Lowered
+fn storage_address(rows: &[u64], lists: &[u64], counts: Counts, code: &mut [u8], store: &mut [u8], narrowed: &mut [u64], s: State, storage: StorageId, bit: bool, o: u64, h: At) -> Lowered
     requires { ⌜ (Sized counts) × (Room 2 (s .counters)) ⌝ }
-    ensures { λ r. ⌜ ((nodes lists stack : List ℕ) → TypesRight (tables-of (now (rows .entry)) nodes lists counts) → MeetsValue (bufs (now (code .entry)) (now (store .entry)) (now (narrowed .entry)) stack) s (materialize-location-address (tables-of (now (rows .entry)) nodes lists counts) (storage .0) bit o (at-of h) (counters-in s)) (bufs (now (code .exit)) (now (store .exit)) (now (narrowed .exit)) stack) r) ⌝ }
+    ensures { λ r. ⌜ ((nodes stack : List ℕ) → TypesRight (tables-of (now (rows .entry)) nodes (now (lists .entry)) counts) → MeetsValue (bufs (now (code .entry)) (now (store .entry)) (now (narrowed .entry)) stack) s (materialize-location-address (tables-of (now (rows .entry)) nodes (now (lists .entry)) counts) (storage .0) bit o (at-of h) (counters-in s)) (bufs (now (code .exit)) (now (store .exit)) (now (narrowed .exit)) stack) r) ⌝ }
 {
     if bit {
         return Lowered::Refused(21, h.line);
     }
-    narrow(rows, counts, narrowed, storage.0);
+    narrow(rows, lists, counts, narrowed, storage.0);
     let counters = s.counters;
     let new = addressing::allocate_pointer(store, counters);
     let id = new.id;
@@ -373,13 +373,13 @@ fn storage_address(rows: &[u64], counts: Counts, code: &mut [u8], store: &mut [u
 }
 
 // The static's own offset is not added.
-pub fn lower_static_address(rows: &[u64], counts: Counts, code: &mut [u8], store: &mut [u8], narrowed: &mut [u64], s: State, k: u64, o: u64, h: At) -> Lowered
+pub fn lower_static_address(rows: &[u64], lists: &[u64], counts: Counts, code: &mut [u8], store: &mut [u8], narrowed: &mut [u64], s: State, k: u64, o: u64, h: At) -> Lowered
     requires { ⌜ (Sized counts) × (Room 2 (s .counters)) ⌝ }
-    ensures { λ r. ⌜ ((nodes lists stack : List ℕ) → TypesRight (tables-of (now (rows .entry)) nodes lists counts) → MeetsValue (bufs (now (code .entry)) (now (store .entry)) (now (narrowed .entry)) stack) s (lower-static-address (tables-of (now (rows .entry)) nodes lists counts) k o (at-of h) (counters-in s)) (bufs (now (code .exit)) (now (store .exit)) (now (narrowed .exit)) stack) r) ⌝ }
+    ensures { λ r. ⌜ ((nodes stack : List ℕ) → TypesRight (tables-of (now (rows .entry)) nodes (now (lists .entry)) counts) → MeetsValue (bufs (now (code .entry)) (now (store .entry)) (now (narrowed .entry)) stack) s (lower-static-address (tables-of (now (rows .entry)) nodes (now (lists .entry)) counts) k o (at-of h) (counters-in s)) (bufs (now (code .exit)) (now (store .exit)) (now (narrowed .exit)) stack) r) ⌝ }
 {
-    match tables::static_at(rows, counts, k) {
+    match tables::static_at(rows, lists, counts, k) {
         PlacedAt::Missing => Lowered::Refused(20, h.line),
-        PlacedAt::Found(p) => storage_address(rows, counts, code, store, narrowed, s, StorageId(p.storage), p.bit == 1, o, h),
+        PlacedAt::Found(p) => storage_address(rows, lists, counts, code, store, narrowed, s, StorageId(p.storage), p.bit == 1, o, h),
     }
 }
 
@@ -390,6 +390,6 @@ pub fn lower_address_of(rows: &[u64], nodes: &[u64], lists: &[u64], counts: Coun
 {
     match places::resolve_addressed_place(rows, nodes, lists, counts, depth, p) {
         Based::Refused(n) => Lowered::Refused(n, h.line),
-        Based::At(b) => storage_address(rows, counts, code, store, narrowed, s, b.storage, b.bit, b.offset, h),
+        Based::At(b) => storage_address(rows, lists, counts, code, store, narrowed, s, b.storage, b.bit, b.offset, h),
     }
 }

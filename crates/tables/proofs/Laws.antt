@@ -1,19 +1,49 @@
 -- What the look-ups into a ticket's tables give, by the words. Assumes nothing.
-use mathlib.Core.Path.{_≡_, refl, sym, ap, _∙_}
+use mathlib.Core.Path.{_≡_, refl, sym, ap, subst, _∙_}
 use mathlib.Core.Bool.{Bool, true, false}
 use mathlib.Core.List.{List, [], _∷_, _++_}
 use mathlib.Core.Option.{Option, none, some}
 use Prim.Native.Nat.{ℕ, zero, suc, _+_, _-_, _*_, _≤_, _<_}
 use native.Mathlib.Omega.{arith}
-use native.Mathlib.Nat.{mul-le-mul}
 use lib.ListN.{length, getD, take, List·getD-eq-default}
 use lib.Dec.{ltb}
 use borrow.Author.Tests.{lt-ltb, le-ltb, ltb-true, ltb-false}
-use Rattle.spec.specs.Hir.{Expr, Place, null-pointer, variable}
-use Rattle.spec.specs.Ticket.{TypeLine, StorageLine, PlacedLine, PlaceLine, NodeLine, Tables, noType, noStorage, noPlace, noNode, typeAt, storageAt, placeLineAt, nodeAt, exprAt, placeAt, nowhere}
+use Rattle.spec.specs.Hir.{At, Expr, Place, null-pointer, variable}
+use Rattle.spec.specs.Forms.{type-rules, place-rules, node-rules}
+use Rattle.spec.specs.Read.{behind-type}
+use Rattle.spec.specs.Ticket.{
+  TypeWord,
+  tUnit,
+  tBool,
+  tBits,
+  tFloat,
+  tPointer,
+  tArray,
+  tOpaque,
+  TypeLine,
+  StorageLine,
+  PlacedLine,
+  PlaceLine,
+  NodeLine,
+  Tables,
+  noType,
+  noStorage,
+  noPlace,
+  noNode,
+  typeAt,
+  storageAt,
+  placeLineAt,
+  nodeAt,
+  arg,
+  exprOf,
+  placeOf,
+  exprAt,
+  placeAt,
+  nowhere,
+}
 use Rattle.spec.specs.Operands.{nth}
 use Rattle.spec.specs.Allocation.{type-size}
-use Rattle.spec.specs.Readable.{Readable}
+use Rattle.spec.specs.Readable.{Counted, TypesRight, Readable}
 use Rattle.tables.specs.declared.Counts.{Counts}
 use Rattle.tables.specs.declared.TypeKind.{TypeKind}
 use Rattle.tables.specs.declared.NodeKind.{NodeKind}
@@ -24,36 +54,53 @@ use Rattle.tables.specs.Tables.{
   tab,
   cell,
   run,
+  numbers-at,
+  storages-from,
+  variables-from,
+  statics-from,
+  places-from,
+  type-cell,
+  type-word-by,
+  type-kinds,
   type-kind,
+  type-kind-in,
   type-kind-at,
   type-word,
   type-args,
   size-at,
   weight-at,
-  owner-at,
   type-line,
   storage-line,
+  owner-at,
   placed-line,
   placed-option,
-  placed-words,
+  placed-of,
   placed-at,
   placed-list,
+  variables-of,
+  statics-of,
+  place-word-by,
+  place-kinds,
   place-kind,
   place-kind-at,
+  place-word,
+  place-args,
   place-line,
+  node-cell,
+  node-word-by,
+  node-kinds,
   node-kind,
+  node-kind-in,
   node-kind-at,
+  node-word,
+  node-args,
   node-line,
+  behind,
   tables-of,
   tree-of,
   place-of,
   at-of,
   Sized,
-  variables-of,
-  statics-of,
-  variables-from,
-  statics-from,
-  places-from,
 }
 
 -- ---------------------------------------------------------------- lists by a function
@@ -116,160 +163,6 @@ module _ {A : Type 0} (f : ℕ → A) where
   take-tab j zero (suc k) h = absurd (omega arith)
   take-tab j (suc n) (suc k) h = ap (λ l. f j ∷ l) (take-tab (suc j) n k (omega arith))
 
--- ---------------------------------------------------------------- cells
-
-module _ (ws : List ℕ) (width base count k j d : ℕ) where
-  pub cell-in : k < count → cell ws width base count k j d ≡ getD ws ((base + k) * width + j) 0
-  unfolding cell
-  cell-in h = rw (lt-ltb k count h)
-
-  pub cell-out : count ≤ k → cell ws width base count k j d ≡ d
-  unfolding cell
-  cell-out h = rw (le-ltb k count h)
-
-  -- a cell's place is small
-  pub place-fits : width ≤ 8 → base + k ≤ 1099511627776 → (base + k) * width ≤ 8796093022208
-  place-fits h l = omega (arith, mul-le-mul l h)
-
--- ---------------------------------------------------------------- kinds, by a word's number
-
--- a number that is none of the first n + 1
-pub past : {n w : ℕ} → n ≤ w → (w ≡ n → ⊥) → suc n ≤ w
-past h e = omega arith
-
-pub type-kind-past : (w a b : ℕ) → 9 ≤ w → TypeKind.Unit ≡ type-kind w a b
-unfolding type-kind
-type-kind-past w a b h =
-    sym
-    (List·getD-eq-default
-    (TypeKind.Unit ∷ TypeKind.Bool ∷ TypeKind.Bits a ∷ TypeKind.Float a ∷ TypeKind.Pointer ∷ TypeKind.Array a b ∷ TypeKind.Struct a b ∷
-    TypeKind.Tuple a b ∷ TypeKind.Opaque a ∷ [])
-    TypeKind.Unit {n = w} h)
-
-pub place-kind-past : (w a b : ℕ) → 5 ≤ w → PlaceKind.Variable a ≡ place-kind w a b
-unfolding place-kind
-place-kind-past w a b h =
-    sym
-    (List·getD-eq-default
-    (PlaceKind.Variable a ∷ PlaceKind.Static a ∷ PlaceKind.Field a b ∷ PlaceKind.Element a b ∷ PlaceKind.Offset a b ∷ [])
-    (PlaceKind.Variable a) {n = w} h)
-
-pub node-kind-past : (w a b c : ℕ) → 20 ≤ w → NodeKind.Null ≡ node-kind w a b c
-unfolding node-kind
-node-kind-past w a b c h =
-    sym
-    (List·getD-eq-default
-    (NodeKind.Bool a ∷ NodeKind.Int a ∷ NodeKind.F32 a ∷ NodeKind.F64 a ∷ NodeKind.Null ∷ NodeKind.StaticAddress a b ∷ NodeKind.Function a ∷
-    NodeKind.Read a ∷ NodeKind.Unary a b ∷ NodeKind.Binary a b c ∷ NodeKind.Funary a ∷ NodeKind.Fbinary a b ∷ NodeKind.Compare a b c ∷
-    NodeKind.Convert a b ∷ NodeKind.Select a b c ∷ NodeKind.Address a ∷ NodeKind.Offset a b ∷ NodeKind.Aggregate a b ∷ NodeKind.Extract a b ∷
-    NodeKind.Insert a b c ∷ [])
-    NodeKind.Null {n = w} h)
-
--- ---------------------------------------------------------------- lines
-
-pub place-kind-out : (rows : List ℕ) (c : Counts) (k : ℕ) → c .places ≤ k → place-kind-at rows c k ≡ PlaceKind.Variable 0
-unfolding place-kind-at place-kind
-place-kind-out rows c k g = simp (cell-out rows 6 (places-from c) (c .places) k 0 0 g, cell-out rows 6 (places-from c) (c .places) k 1 0 g)
-
-module _ (rows nodes lists : List ℕ) (c : Counts) where
-  type-out : (k : ℕ) → c .types ≤ k → type-line rows lists c k ≡ noType
-  unfolding type-line type-kind-at type-kind
-  type-out k g = simp (cell-out rows 6 0 (c .types) k 0 0 g, cell-out rows 6 0 (c .types) k 3 0 g, cell-out rows 6 0 (c .types) k 4 1 g, cell-out rows 6 0 (c .types) k 5 1 g)
-
-  pub type-at : (k : ℕ) → typeAt (tables-of rows nodes lists c) k ≡ type-line rows lists c k
-  unfolding tables-of
-  type-at k = getD-tab0 (type-line rows lists c) noType (c .types) k (type-out k)
-
-  pub size-here : (k : ℕ) → type-size (tables-of rows nodes lists c) k ≡ size-at rows c k
-  unfolding type-size type-line
-  size-here k = ap (λ l. l .size) (type-at k)
-
-  pub weight-here : (k : ℕ) → (typeAt (tables-of rows nodes lists c) k) .weight ≡ weight-at rows c k
-  unfolding type-line
-  weight-here k = rw (type-at k)
-
-  pub word-here : (k : ℕ) → (typeAt (tables-of rows nodes lists c) k) .word ≡ type-word (type-kind-at rows c k)
-  unfolding type-line
-  word-here k = rw (type-at k)
-
-  pub args-here : (k : ℕ) → (typeAt (tables-of rows nodes lists c) k) .args ≡ type-args lists (type-kind-at rows c k)
-  unfolding type-line
-  args-here k = rw (type-at k)
-
-  storage-out : (k : ℕ) → c .storages ≤ k → storage-line rows c k ≡ noStorage
-  unfolding storage-line
-  storage-out k g = simp (cell-out rows 6 (c .types) (c .storages) k 0 0 g, cell-out rows 6 (c .types) (c .storages) k 1 0 g, cell-out rows 6 (c .types) (c .storages) k 2 0 g, cell-out rows 6 (c .types) (c .storages) k 3 0 g)
-
-  pub storage-at : (k : ℕ) → storageAt (tables-of rows nodes lists c) k ≡ storage-line rows c k
-  unfolding tables-of
-  storage-at k = getD-tab0 (storage-line rows c) noStorage (c .storages) k (storage-out k)
-
-  pub owner-here : (k : ℕ) → (storageAt (tables-of rows nodes lists c) k) .owner ≡ owner-at rows c k
-  unfolding storage-line
-  owner-here k = rw (storage-at k)
-
-  node-out : (k : ℕ) → c .nodes ≤ k → node-line nodes lists c k ≡ noNode
-  unfolding node-line node-kind-at node-kind
-  node-out k g = simp (cell-out nodes 8 0 (c .nodes) k 0 0 g, cell-out nodes 8 0 (c .nodes) k 1 4 g, cell-out nodes 8 0 (c .nodes) k 5 0 g, cell-out nodes 8 0 (c .nodes) k 6 0 g)
-
-  pub node-at : (k : ℕ) → nodeAt (tables-of rows nodes lists c) k ≡ node-line nodes lists c k
-  unfolding tables-of
-  node-at k = getD-tab0 (node-line nodes lists c) noNode (c .nodes) k (node-out k)
-
-  -- a place that no line has refers to variable 0, and so does `noPlace`, which has no numbers
-  pub place-line-in : (k : ℕ) → k < c .places → placeLineAt (tables-of rows nodes lists c) k ≡ place-line rows c k
-  unfolding tables-of
-  place-line-in k h = let e : 0 + k ≡ k = omega arith in rw e at (getD-tab-in (place-line rows c) noPlace 0 (c .places) k h)
-
-  pub place-line-out : (k : ℕ) → c .places ≤ k → placeLineAt (tables-of rows nodes lists c) k ≡ noPlace
-  unfolding tables-of
-  place-line-out k h = getD-tab-out (place-line rows c) noPlace 0 (c .places) k h
-
--- ---------------------------------------------------------------- variables and statics
-
-module _ (rows : List ℕ) (base count k : ℕ) where
-  nth-placed-by : (t : Bool) → ltb k count ≡ t → nth (placed-list rows base count) k ≡ placed-option (pick t (PlacedAt.Found (placed-words rows base count k)) PlacedAt.Missing)
-  unfolding placed-list
-  nth-placed-by true e = let z : 0 + k ≡ k = omega arith in rw z at (nth-tab-in (λ i. placed-line (placed-words rows base count i)) 0 count k (ltb-true k count e))
-  nth-placed-by false e = nth-tab-out (λ i. placed-line (placed-words rows base count i)) 0 count k (ltb-false k count e)
-
-  pub nth-placed : nth (placed-list rows base count) k ≡ placed-option (placed-at rows base count k)
-  unfolding placed-at
-  nth-placed = nth-placed-by (ltb k count) refl
-
-module _ (rows nodes lists : List ℕ) (c : Counts) where
-  pub nth-variable : (k : ℕ) → nth ((tables-of rows nodes lists c) .variables) k ≡ nth (variables-of rows c) k
-  unfolding tables-of
-  nth-variable k = refl
-
-  pub nth-static : (k : ℕ) → nth ((tables-of rows nodes lists c) .statics) k ≡ nth (statics-of rows c) k
-  unfolding tables-of
-  nth-static k = refl
-
-  -- ---------------------------------------------------------------- trees
-
-  pub tree-here : (d k : ℕ) (n : NodeKind) → (d ≡ 0 → ⊥) → node-kind-at nodes c k ≡ n → exprAt d (tables-of rows nodes lists c) k ≡ tree-of (tables-of rows nodes lists c) lists (d - 1) (at-of nodes c k) n
-  unfolding exprAt node-line
-  tree-here zero k n h e = absurd (h refl)
-  tree-here (suc d) k n h e = let g : suc d - 1 ≡ d = omega arith in rw (g, node-at rows nodes lists c k, e)
-
-  pub tree-none : (d k : ℕ) → d ≡ 0 → exprAt d (tables-of rows nodes lists c) k ≡ null-pointer nowhere
-  unfolding exprAt
-  tree-none d k e = rw e
-
-  place-by : (d k : ℕ) (t : Bool) → ltb k (c .places) ≡ t → placeAt (suc d) (tables-of rows nodes lists c) k ≡ place-of (tables-of rows nodes lists c) d (place-kind-at rows c k)
-  unfolding placeAt place-line
-  place-by d k true e = rw (place-line-in rows nodes lists c k (ltb-true _ _ e))
-  place-by d k false e = rw (place-line-out rows nodes lists c k (ltb-false _ _ e), place-kind-out rows c k (ltb-false _ _ e))
-
-  pub place-here : (d k : ℕ) (p : PlaceKind) → (d ≡ 0 → ⊥) → place-kind-at rows c k ≡ p → placeAt d (tables-of rows nodes lists c) k ≡ place-of (tables-of rows nodes lists c) (d - 1) p
-  place-here zero k p h e = absurd (h refl)
-  place-here (suc d) k p h e = let g : suc d - 1 ≡ d = omega arith in rw (g, ← e) (place-by d k (ltb k (c .places)) refl)
-
-  pub place-none : (d k : ℕ) → d ≡ 0 → placeAt d (tables-of rows nodes lists c) k ≡ variable 0
-  unfolding placeAt
-  place-none d k e = rw e
-
 -- ---------------------------------------------------------------- runs of the lists
 
 module _ (lists : List ℕ) where
@@ -302,6 +195,272 @@ module _ (lists : List ℕ) where
   unfolding run
   run-more a n = tab-more (λ i. getD lists i 0) a n
 
+  pub arg-in : (a n i : ℕ) → i < n → arg (run lists a n) i ≡ getD lists (a + i) 0
+  unfolding run
+  arg-in a n i h = getD-tab-in (λ i. getD lists i 0) 0 a n i h
+
+  pub arg-out : (a n i : ℕ) → n ≤ i → arg (run lists a n) i ≡ 0
+  unfolding run
+  arg-out a n i h = getD-tab-out (λ i. getD lists i 0) 0 a n i h
+
+  -- past the end every run is one of zeros
+  run-past : (a b n : ℕ) → length lists ≤ a → length lists ≤ b → run lists a n ≡ run lists b n
+  unfolding run tab
+  run-past a b zero h g = refl
+  run-past a b (suc n) h g =
+      rw (List·getD-eq-default lists 0 {n = a} h, List·getD-eq-default lists 0 {n = b} g)
+      (ap (λ l. 0 ∷ l) (run-past (suc a) (suc b) n (omega arith) (omega arith)))
+
+  behind-by : (a n : ℕ) (t : Bool) → ltb a (length lists) ≡ t → run lists (suc a) n ≡ run lists (pick t (a + 1) a) n
+  behind-by a n true e = let g : a + 1 ≡ suc a = omega arith in rw g
+  behind-by a n false e = let h = ltb-false a (length lists) e in run-past (suc a) a n (omega arith) h
+
+  -- a node's numbers behind its TYPE
+  pub behind-run : (a n : ℕ) → behind-type (run lists a n) ≡ run lists (behind lists a) (n - 1)
+  unfolding run tab behind
+  behind-run a zero = refl
+  behind-run a (suc n) = let e : suc n - 1 ≡ n = omega arith in rw e (behind-by a n (ltb a (length lists)) refl)
+
+-- ---------------------------------------------------------------- cells
+
+module _ (ws : List ℕ) (base count k j d : ℕ) where
+  pub cell-in : k < count → cell ws base count k j d ≡ getD ws ((base + k) * 6 + j) 0
+  unfolding cell
+  cell-in h = rw (lt-ltb k count h)
+
+  pub cell-out : count ≤ k → cell ws base count k j d ≡ d
+  unfolding cell
+  cell-out h = rw (le-ltb k count h)
+
+pub numbers-out : (ws lists : List ℕ) (base count k : ℕ) → count ≤ k → numbers-at ws lists base count k ≡ []
+unfolding numbers-at run tab
+numbers-out ws lists base count k h = rw (cell-out ws base count k 2 0 h)
+
+-- ---------------------------------------------------------------- kinds, by a word's number
+
+-- a number that is none of the first n + 1
+pub past : {n w : ℕ} → n ≤ w → (w ≡ n → ⊥) → suc n ≤ w
+past h e = omega arith
+
+pub type-kind-past : (w s n a b : ℕ) → 9 ≤ w → TypeKind.Unit ≡ type-kind w s n a b
+unfolding type-kind
+type-kind-past w s n a b h = sym (List·getD-eq-default (type-kinds s n a b) TypeKind.Unit {n = w} h)
+
+pub place-kind-past : (w a b : ℕ) → 5 ≤ w → PlaceKind.Variable a ≡ place-kind w a b
+unfolding place-kind
+place-kind-past w a b h = sym (List·getD-eq-default (place-kinds a b) (PlaceKind.Variable a) {n = w} h)
+
+pub node-kind-past : (w s n a b c : ℕ) → 20 ≤ w → NodeKind.Null ≡ node-kind w s n a b c
+unfolding node-kind
+node-kind-past w s n a b c h = sym (List·getD-eq-default (node-kinds s n a b c) NodeKind.Null {n = w} h)
+
+-- P of the elements of two lists, one by one
+abbrev Both : {A B : Type 0} → (A → B → Type 0) → List A → List B → Type 0
+Both P [] [] = Unit {0}
+Both P [] (y ∷ ys) = ⊥
+Both P (x ∷ xs) [] = ⊥
+Both P (x ∷ xs) (y ∷ ys) = P x y × Both P xs ys
+
+both-at : {A B : Type 0} (P : A → B → Type 0) (xs : List A) (ys : List B) (d : A) (e : B) → Both P xs ys → P d e → (k : ℕ) → P (getD xs k d) (getD ys k e)
+both-at P [] [] d e b h k = h
+both-at P [] (y ∷ ys) d e b h k = absurd b
+both-at P (x ∷ xs) [] d e b h k = absurd b
+both-at P (x ∷ xs) (y ∷ ys) d e b h zero = b .0
+both-at P (x ∷ xs) (y ∷ ys) d e b h (suc k) = both-at P xs ys d e (b .1) h k
+
+-- F looks at a type's numbers one by one, at a struct's and a tuple's all together
+pub record Looks {A : Type 0} (F : TypeWord → List ℕ → A) : Type 0 where
+  pub unit : (xs : List ℕ) → F tUnit xs ≡ F tUnit []
+  pub bool : (xs : List ℕ) → F tBool xs ≡ F tBool []
+  pub bits : (xs : List ℕ) → F tBits xs ≡ F tBits (arg xs 0 ∷ [])
+  pub float : (xs : List ℕ) → F tFloat xs ≡ F tFloat (arg xs 0 ∷ [])
+  pub pointer : (xs : List ℕ) → F tPointer xs ≡ F tPointer []
+  pub array : (xs : List ℕ) → F tArray xs ≡ F tArray (arg xs 0 ∷ arg xs 1 ∷ [])
+  pub opaque : (xs : List ℕ) → F tOpaque xs ≡ F tOpaque (arg xs 0 ∷ [])
+
+-- lists of few numbers, by their numbers
+none-in : (xs : List ℕ) → length xs ≡ 0 → xs ≡ []
+none-in [] h = refl
+none-in (x ∷ xs) h = absurd (omega arith)
+
+one-in : (xs : List ℕ) → length xs ≡ 1 → xs ≡ arg xs 0 ∷ []
+one-in [] h = absurd (omega arith)
+one-in (x ∷ xs) h = ap (λ l. x ∷ l) (none-in xs (omega arith))
+
+two-in : (xs : List ℕ) → length xs ≡ 2 → xs ≡ arg xs 0 ∷ arg xs 1 ∷ []
+two-in [] h = absurd (omega arith)
+two-in (x ∷ xs) h = ap (λ l. x ∷ l) (one-in xs (omega arith))
+
+module _ (lists : List ℕ) (w s n : ℕ) where
+  type-word-kind : type-word-by w ≡ type-word (type-kind-in lists w s n)
+  unfolding type-word-by type-kind-in type-kind
+  type-word-kind =
+      both-at (λ r k. r .make ≡ type-word k) type-rules (type-kinds s n (arg (run lists s n) 0) (arg (run lists s n) 1)) _ TypeKind.Unit
+      (refl, (refl, (refl, (refl, (refl, (refl, (refl, (refl, (refl, tt))))))))) refl w
+
+  type-looked : {A : Type 0} {F : TypeWord → List ℕ → A} → Looks F → F (type-word-by w) (run lists s n) ≡ F (type-word (type-kind-in lists w s n)) (type-args lists (type-kind-in lists w s n))
+  unfolding type-word-by type-kind-in type-kind
+  type-looked {F = F} l =
+      let xs = run lists s n in
+      both-at (λ r k. F (r .make) (run lists s n) ≡ F (type-word k) (type-args lists k)) type-rules (type-kinds s n (arg (run lists s n) 0) (arg (run lists s n) 1)) _ TypeKind.Unit
+      (l .unit xs, (l .bool xs, (l .bits xs, (l .float xs, (l .pointer xs, (l .array xs, (refl, (refl, (l .opaque xs, tt))))))))) (l .unit xs) w
+
+  type-counted : Counted (type-word-by w) (run lists s n) → run lists s n ≡ type-args lists (type-kind-in lists w s n)
+  unfolding type-word-by type-kind-in type-kind Counted
+  type-counted h =
+      let xs = run lists s n in
+      both-at (λ r k. Counted (r .make) (run lists s n) → run lists s n ≡ type-args lists k) type-rules (type-kinds s n (arg (run lists s n) 0) (arg (run lists s n) 1)) _ TypeKind.Unit
+      (none-in xs, (none-in xs, (one-in xs, (one-in xs, (none-in xs, (two-in xs, ((λ _. refl), ((λ _. refl), (one-in xs, tt))))))))) (none-in xs) w h
+
+  node-tree : (p : ℕ → Place) (e : ℕ → Expr) (h : At) → exprOf p e h (node-word-by w) (run lists s n) ≡ exprOf p e h (node-word (node-kind-in lists w s n)) (node-args lists (node-kind-in lists w s n))
+  unfolding node-word-by node-kind-in node-kind
+  node-tree p e h =
+      both-at (λ r k. exprOf p e h (r .make) (run lists s n) ≡ exprOf p e h (node-word k) (node-args lists k)) node-rules
+      (node-kinds s n (arg (run lists s n) 0) (arg (run lists s n) 1) (arg (run lists s n) 2)) _ NodeKind.Null
+      (refl, (refl, (refl, (refl, (refl, (refl, (refl, (refl, (refl, (refl, (refl, (refl, (refl, (refl, (refl, (refl, (refl, (refl, (refl, (refl, tt)))))))))))))))))))) refl w
+
+place-tree : (p : ℕ → Place) (e : ℕ → Expr) (w : ℕ) (xs : List ℕ) → placeOf p e (place-word-by w) xs ≡ placeOf p e (place-word (place-kind w (arg xs 0) (arg xs 1))) (place-args (place-kind w (arg xs 0) (arg xs 1)))
+unfolding place-word-by place-kind
+place-tree p e w xs =
+    both-at (λ r k. placeOf p e (r .make) xs ≡ placeOf p e (place-word k) (place-args k)) place-rules (place-kinds (arg xs 0) (arg xs 1)) _ (PlaceKind.Variable (arg xs 0))
+    (refl, (refl, (refl, (refl, (refl, tt))))) refl w
+
+-- ---------------------------------------------------------------- lines
+
+module _ (rows nodes lists : List ℕ) (c : Counts) where
+  type-out : (k : ℕ) → c .types ≤ k → type-line rows lists c k ≡ noType
+  unfolding type-line type-word-by
+  type-out k g =
+      rw (
+        cell-out rows 0 (c .types) k 0 0 g,
+        cell-out rows 0 (c .types) k 3 0 g,
+        cell-out rows 0 (c .types) k 4 1 g,
+        cell-out rows 0 (c .types) k 5 1 g,
+        numbers-out rows lists 0 (c .types) k g,
+      )
+
+  pub type-at : (k : ℕ) → typeAt (tables-of rows nodes lists c) k ≡ type-line rows lists c k
+  unfolding tables-of
+  type-at k = getD-tab0 (type-line rows lists c) noType (c .types) k (type-out k)
+
+  pub size-here : (k : ℕ) → type-size (tables-of rows nodes lists c) k ≡ size-at rows c k
+  unfolding type-size type-line
+  size-here k = ap (λ l. l .size) (type-at k)
+
+  pub weight-here : (k : ℕ) → (typeAt (tables-of rows nodes lists c) k) .weight ≡ weight-at rows c k
+  unfolding type-line
+  weight-here k = rw (type-at k)
+
+  pub word-here : (k : ℕ) → (typeAt (tables-of rows nodes lists c) k) .word ≡ type-word (type-kind-at rows lists c k)
+  unfolding type-line type-kind-at
+  word-here k = ap (λ l. l .word) (type-at k) ∙ type-word-kind lists (type-cell rows c k 0 0) (type-cell rows c k 1 0) (type-cell rows c k 2 0)
+
+  pub looks-here : {A : Type 0} {F : TypeWord → List ℕ → A} → Looks F → (k : ℕ)
+      → F ((typeAt (tables-of rows nodes lists c) k) .word) ((typeAt (tables-of rows nodes lists c) k) .args) ≡ F (type-word (type-kind-at rows lists c k)) (type-args lists (type-kind-at rows lists c k))
+  unfolding type-line type-kind-at numbers-at
+  looks-here {F = F} l k =
+      ap (λ t. F (t .word) (t .args)) (type-at k) ∙ type-looked lists (type-cell rows c k 0 0) (type-cell rows c k 1 0) (type-cell rows c k 2 0) l
+
+  -- a readable ticket's type has as many numbers as its word takes
+  pub args-here : TypesRight (tables-of rows nodes lists c) → (k : ℕ) → (typeAt (tables-of rows nodes lists c) k) .args ≡ type-args lists (type-kind-at rows lists c k)
+  unfolding type-line type-kind-at numbers-at
+  args-here R k =
+      ap (λ l. l .args) (type-at k)
+      ∙ type-counted lists (type-cell rows c k 0 0) (type-cell rows c k 1 0) (type-cell rows c k 2 0) (subst (λ t. Counted (t .word) (t .args)) (type-at k) (R .counted k))
+
+  storage-out : (k : ℕ) → c .storages ≤ k → storage-line rows lists c k ≡ noStorage
+  unfolding storage-line
+  storage-out k g = rw (numbers-out rows lists storages-from (c .storages) k g)
+
+  pub storage-at : (k : ℕ) → storageAt (tables-of rows nodes lists c) k ≡ storage-line rows lists c k
+  unfolding tables-of
+  storage-at k = getD-tab0 (storage-line rows lists c) noStorage (c .storages) k (storage-out k)
+
+  pub owner-here : (k : ℕ) → (storageAt (tables-of rows nodes lists c) k) .owner ≡ owner-at rows lists c k
+  unfolding storage-line
+  owner-here k = rw (storage-at k)
+
+  place-out : (k : ℕ) → c .places ≤ k → place-line rows lists c k ≡ noPlace
+  unfolding place-line place-word-by
+  place-out k g =
+      rw (
+        cell-out rows places-from (c .places) k 0 0 g,
+        cell-out rows places-from (c .places) k 3 0 g,
+        cell-out rows places-from (c .places) k 4 0 g,
+        numbers-out rows lists places-from (c .places) k g,
+      )
+
+  pub place-line-at : (k : ℕ) → placeLineAt (tables-of rows nodes lists c) k ≡ place-line rows lists c k
+  unfolding tables-of
+  place-line-at k = getD-tab0 (place-line rows lists c) noPlace (c .places) k (place-out k)
+
+  node-out : (k : ℕ) → c .nodes ≤ k → node-line nodes lists c k ≡ noNode
+  unfolding node-line node-word-by
+  node-out k g =
+      rw (
+        cell-out nodes 0 (c .nodes) k 0 4 g,
+        cell-out nodes 0 (c .nodes) k 3 0 g,
+        cell-out nodes 0 (c .nodes) k 4 0 g,
+        numbers-out nodes lists 0 (c .nodes) k g,
+      )
+
+  pub node-at : (k : ℕ) → nodeAt (tables-of rows nodes lists c) k ≡ node-line nodes lists c k
+  unfolding tables-of
+  node-at k = getD-tab0 (node-line nodes lists c) noNode (c .nodes) k (node-out k)
+
+-- ---------------------------------------------------------------- variables and statics
+
+module _ (rows lists : List ℕ) (base count k : ℕ) where
+  nth-placed-by : (t : Bool) → ltb k count ≡ t → nth (placed-list rows lists base count) k ≡ placed-option (pick t (PlacedAt.Found (placed-of (numbers-at rows lists base count k))) PlacedAt.Missing)
+  unfolding placed-list
+  nth-placed-by true e = let z : 0 + k ≡ k = omega arith in rw z at (nth-tab-in (λ i. placed-line (placed-of (numbers-at rows lists base count i))) 0 count k (ltb-true k count e))
+  nth-placed-by false e = nth-tab-out (λ i. placed-line (placed-of (numbers-at rows lists base count i))) 0 count k (ltb-false k count e)
+
+  pub nth-placed : nth (placed-list rows lists base count) k ≡ placed-option (placed-at rows lists base count k)
+  unfolding placed-at
+  nth-placed = nth-placed-by (ltb k count) refl
+
+module _ (rows nodes lists : List ℕ) (c : Counts) where
+  pub nth-variable : (k : ℕ) → nth ((tables-of rows nodes lists c) .variables) k ≡ nth (variables-of rows lists c) k
+  unfolding tables-of
+  nth-variable k = refl
+
+  pub nth-static : (k : ℕ) → nth ((tables-of rows nodes lists c) .statics) k ≡ nth (statics-of rows lists c) k
+  unfolding tables-of
+  nth-static k = refl
+
+  -- ---------------------------------------------------------------- trees
+
+  tree-by : (d k : ℕ) → exprAt (suc d) (tables-of rows nodes lists c) k ≡ tree-of (tables-of rows nodes lists c) lists d (at-of nodes lists c k) (node-kind-at nodes lists c k)
+  unfolding exprAt node-line node-kind-at numbers-at
+  tree-by d k =
+      let T = tables-of rows nodes lists c in
+      rw (node-at rows nodes lists c k, behind-run lists (node-cell nodes c k 1 0) (node-cell nodes c k 2 0))
+      (node-tree lists (node-cell nodes c k 0 4) (behind lists (node-cell nodes c k 1 0)) (node-cell nodes c k 2 0 - 1) (λ j. placeAt d T j) (λ j. exprAt d T j) (at-of nodes lists c k))
+
+  pub tree-here : (d k : ℕ) (n : NodeKind) → (d ≡ 0 → ⊥) → node-kind-at nodes lists c k ≡ n → exprAt d (tables-of rows nodes lists c) k ≡ tree-of (tables-of rows nodes lists c) lists (d - 1) (at-of nodes lists c k) n
+  tree-here zero k n h e = absurd (h refl)
+  tree-here (suc d) k n h e = let g : suc d - 1 ≡ d = omega arith in rw (g, ← e) (tree-by d k)
+
+  pub tree-none : (d k : ℕ) → d ≡ 0 → exprAt d (tables-of rows nodes lists c) k ≡ null-pointer nowhere
+  unfolding exprAt
+  tree-none d k e = rw e
+
+  place-by : (d k : ℕ) → placeAt (suc d) (tables-of rows nodes lists c) k ≡ place-of (tables-of rows nodes lists c) d (place-kind-at rows lists c k)
+  unfolding placeAt place-line place-kind-at
+  place-by d k =
+      let T = tables-of rows nodes lists c in
+      rw (place-line-at rows nodes lists c k)
+      (place-tree (λ j. placeAt d T j) (λ j. exprAt d T j) (cell rows places-from (c .places) k 0 0) (numbers-at rows lists places-from (c .places) k))
+
+  pub place-here : (d k : ℕ) (p : PlaceKind) → (d ≡ 0 → ⊥) → place-kind-at rows lists c k ≡ p → placeAt d (tables-of rows nodes lists c) k ≡ place-of (tables-of rows nodes lists c) (d - 1) p
+  place-here zero k p h e = absurd (h refl)
+  place-here (suc d) k p h e = let g : suc d - 1 ≡ d = omega arith in rw (g, ← e) (place-by d k)
+
+  pub place-none : (d k : ℕ) → d ≡ 0 → placeAt d (tables-of rows nodes lists c) k ≡ variable 0
+  unfolding placeAt
+  place-none d k e = rw e
+
 -- ---------------------------------------------------------------- a readable ticket's tables are small
 
 module _ (rows nodes lists : List ℕ) (c : Counts) (r : Readable (tables-of rows nodes lists c)) where
@@ -310,9 +469,9 @@ module _ (rows nodes lists : List ℕ) (c : Counts) (r : Readable (tables-of row
   readable-sized =
       record {
         types = omega (arith, r .type-count, length-tab (type-line rows lists c) 0 (c .types));
-        storages = omega (arith, r .storage-count, length-tab (storage-line rows c) 0 (c .storages));
-        variables = omega (arith, r .variable-count, length-tab (λ k. placed-line (placed-words rows (variables-from c) (c .variables) k)) 0 (c .variables));
-        statics = omega (arith, r .static-count, length-tab (λ k. placed-line (placed-words rows (statics-from c) (c .statics) k)) 0 (c .statics));
-        places = omega (arith, r .place-count, length-tab (place-line rows c) 0 (c .places));
+        storages = omega (arith, r .storage-count, length-tab (storage-line rows lists c) 0 (c .storages));
+        variables = omega (arith, r .variable-count, length-tab (λ k. placed-line (placed-of (numbers-at rows lists variables-from (c .variables) k))) 0 (c .variables));
+        statics = omega (arith, r .static-count, length-tab (λ k. placed-line (placed-of (numbers-at rows lists statics-from (c .statics) k))) 0 (c .statics));
+        places = omega (arith, r .place-count, length-tab (place-line rows lists c) 0 (c .places));
         nodes = omega (arith, r .node-count, length-tab (node-line nodes lists c) 0 (c .nodes));
       }

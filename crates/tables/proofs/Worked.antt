@@ -1,7 +1,7 @@
 -- A ticket with every word: the words of its lines stand for what is read from it. Assumes nothing.
 use mathlib.Core.Path.{_≡_, refl}
-use mathlib.Core.List.{List, [], _∷_}
-use Prim.Native.Nat.{ℕ}
+use mathlib.Core.List.{List, [], _∷_, _++_}
+use Prim.Native.Nat.{ℕ, zero, suc}
 use Prim.Native.String.{String}
 use Rattle.spec.specs.Text.{text}
 use Rattle.spec.specs.Read.{read-ticket, accepted}
@@ -11,17 +11,14 @@ use Rattle.tables.specs.Tables.{
   tab,
   cell,
   run,
-  type-kind,
-  type-kind-at,
+  numbers-at,
+  type-word-by,
   type-line,
   storage-line,
-  placed-words,
   placed-list,
-  place-kind,
-  place-kind-at,
+  place-word-by,
   place-line,
-  node-kind,
-  node-kind-at,
+  node-word-by,
   node-line,
   tables-of,
 }
@@ -36,62 +33,93 @@ ticket =
     "n,2,select,17,18,16" ∷ "n,1,offset,3,19" ∷ "n,4,aggregate" ∷ "n,6,aggregate,7,8,9,14" ∷ "n,2,extract,22,1" ∷ "n,6,insert,21,0,23" ∷ "n,8,aggregate,20,24" ∷
     []
 
-abbrev rows : List ℕ
-rows =
+abbrev types : List ℕ
+types =
     1 ∷ 0 ∷ 0 ∷ 1 ∷ 1 ∷ 1 ∷
     4 ∷ 0 ∷ 0 ∷ 2 ∷ 1 ∷ 1 ∷
-    2 ∷ 12 ∷ 0 ∷ 2 ∷ 1 ∷ 1 ∷
-    3 ∷ 32 ∷ 0 ∷ 4 ∷ 1 ∷ 1 ∷
-    0 ∷ 0 ∷ 0 ∷ 0 ∷ 1 ∷ 1 ∷
-    5 ∷ 2 ∷ 3 ∷ 6 ∷ 4 ∷ 2 ∷
-    6 ∷ 0 ∷ 3 ∷ 9 ∷ 7 ∷ 3 ∷
-    7 ∷ 3 ∷ 2 ∷ 11 ∷ 9 ∷ 4 ∷
-    8 ∷ 9 ∷ 0 ∷ 9 ∷ 1 ∷ 1 ∷
-    2 ∷ 40 ∷ 1 ∷ 36 ∷ 0 ∷ 0 ∷
-    0 ∷ 0 ∷ 0 ∷ 100 ∷ 0 ∷ 0 ∷
-    0 ∷ 3 ∷ 7 ∷ 0 ∷ 0 ∷ 0 ∷
-    1 ∷ 0 ∷ 0 ∷ 1 ∷ 0 ∷ 0 ∷
-    0 ∷ 5 ∷ 5 ∷ 0 ∷ 0 ∷ 0 ∷
-    0 ∷ 0 ∷ 0 ∷ 16 ∷ 1 ∷ 1 ∷
-    2 ∷ 0 ∷ 0 ∷ 17 ∷ 2 ∷ 1 ∷
-    2 ∷ 1 ∷ 1 ∷ 18 ∷ 3 ∷ 1 ∷
-    3 ∷ 2 ∷ 0 ∷ 20 ∷ 4 ∷ 1 ∷
-    1 ∷ 0 ∷ 0 ∷ 23 ∷ 1 ∷ 1 ∷
-    4 ∷ 4 ∷ 2 ∷ 24 ∷ 2 ∷ 1 ∷
+    2 ∷ 0 ∷ 1 ∷ 2 ∷ 1 ∷ 1 ∷
+    3 ∷ 1 ∷ 1 ∷ 4 ∷ 1 ∷ 1 ∷
+    0 ∷ 2 ∷ 0 ∷ 0 ∷ 1 ∷ 1 ∷
+    5 ∷ 2 ∷ 2 ∷ 6 ∷ 4 ∷ 2 ∷
+    6 ∷ 4 ∷ 3 ∷ 9 ∷ 7 ∷ 3 ∷
+    7 ∷ 7 ∷ 2 ∷ 11 ∷ 9 ∷ 4 ∷
+    8 ∷ 9 ∷ 1 ∷ 9 ∷ 1 ∷ 1 ∷
+    []
+
+abbrev storages : List ℕ
+storages =
+    0 ∷ 10 ∷ 4 ∷ 0 ∷ 0 ∷ 0 ∷
+    0 ∷ 14 ∷ 4 ∷ 0 ∷ 0 ∷ 0 ∷
+    []
+
+abbrev variables : List ℕ
+variables =
+    0 ∷ 18 ∷ 4 ∷ 0 ∷ 0 ∷ 0 ∷
+    0 ∷ 22 ∷ 4 ∷ 0 ∷ 0 ∷ 0 ∷
+    []
+
+abbrev statics : List ℕ
+statics =
+    0 ∷ 26 ∷ 4 ∷ 0 ∷ 0 ∷ 0 ∷
+    []
+
+abbrev places : List ℕ
+places =
+    0 ∷ 30 ∷ 1 ∷ 16 ∷ 1 ∷ 1 ∷
+    2 ∷ 31 ∷ 2 ∷ 17 ∷ 2 ∷ 1 ∷
+    2 ∷ 33 ∷ 2 ∷ 18 ∷ 3 ∷ 1 ∷
+    3 ∷ 37 ∷ 2 ∷ 20 ∷ 4 ∷ 1 ∷
+    1 ∷ 43 ∷ 1 ∷ 23 ∷ 1 ∷ 1 ∷
+    4 ∷ 44 ∷ 2 ∷ 24 ∷ 2 ∷ 1 ∷
     []
 
 abbrev nodes : List ℕ
 nodes =
-    2 ∷ 1 ∷ 2 ∷ 0 ∷ 0 ∷ 19 ∷ 1 ∷ 1 ∷
-    2 ∷ 7 ∷ 3 ∷ 0 ∷ 0 ∷ 21 ∷ 5 ∷ 1 ∷
-    2 ∷ 1 ∷ 1 ∷ 0 ∷ 0 ∷ 22 ∷ 1 ∷ 1 ∷
-    1 ∷ 15 ∷ 5 ∷ 0 ∷ 0 ∷ 25 ∷ 3 ∷ 1 ∷
-    0 ∷ 0 ∷ 1 ∷ 0 ∷ 0 ∷ 26 ∷ 1 ∷ 1 ∷
-    3 ∷ 2 ∷ 5 ∷ 0 ∷ 0 ∷ 27 ∷ 1 ∷ 1 ∷
-    3 ∷ 3 ∷ 6 ∷ 0 ∷ 0 ∷ 28 ∷ 1 ∷ 1 ∷
-    1 ∷ 4 ∷ 0 ∷ 0 ∷ 0 ∷ 29 ∷ 1 ∷ 1 ∷
-    1 ∷ 5 ∷ 0 ∷ 4 ∷ 0 ∷ 30 ∷ 1 ∷ 1 ∷
-    1 ∷ 6 ∷ 9 ∷ 0 ∷ 0 ∷ 31 ∷ 1 ∷ 1 ∷
-    2 ∷ 8 ∷ 0 ∷ 1 ∷ 0 ∷ 32 ∷ 6 ∷ 1 ∷
-    2 ∷ 1 ∷ 3 ∷ 0 ∷ 0 ∷ 33 ∷ 1 ∷ 1 ∷
-    2 ∷ 9 ∷ 0 ∷ 10 ∷ 11 ∷ 34 ∷ 7 ∷ 1 ∷
-    3 ∷ 10 ∷ 5 ∷ 0 ∷ 0 ∷ 35 ∷ 2 ∷ 1 ∷
-    3 ∷ 11 ∷ 13 ∷ 6 ∷ 0 ∷ 36 ∷ 3 ∷ 1 ∷
-    2 ∷ 1 ∷ 4 ∷ 0 ∷ 0 ∷ 37 ∷ 1 ∷ 1 ∷
-    0 ∷ 12 ∷ 0 ∷ 12 ∷ 15 ∷ 38 ∷ 8 ∷ 1 ∷
-    2 ∷ 13 ∷ 12 ∷ 4 ∷ 0 ∷ 39 ∷ 2 ∷ 1 ∷
-    2 ∷ 1 ∷ 7 ∷ 0 ∷ 0 ∷ 40 ∷ 1 ∷ 1 ∷
-    2 ∷ 14 ∷ 17 ∷ 18 ∷ 16 ∷ 41 ∷ 9 ∷ 1 ∷
-    1 ∷ 16 ∷ 3 ∷ 19 ∷ 0 ∷ 42 ∷ 10 ∷ 1 ∷
-    4 ∷ 17 ∷ 5 ∷ 0 ∷ 0 ∷ 43 ∷ 1 ∷ 1 ∷
-    6 ∷ 17 ∷ 5 ∷ 4 ∷ 0 ∷ 44 ∷ 4 ∷ 1 ∷
-    2 ∷ 18 ∷ 22 ∷ 1 ∷ 0 ∷ 45 ∷ 5 ∷ 1 ∷
-    6 ∷ 19 ∷ 21 ∷ 0 ∷ 23 ∷ 46 ∷ 6 ∷ 1 ∷
-    8 ∷ 17 ∷ 9 ∷ 2 ∷ 0 ∷ 47 ∷ 11 ∷ 1 ∷
+    1 ∷ 35 ∷ 2 ∷ 19 ∷ 1 ∷ 1 ∷
+    7 ∷ 39 ∷ 2 ∷ 21 ∷ 5 ∷ 1 ∷
+    1 ∷ 41 ∷ 2 ∷ 22 ∷ 1 ∷ 1 ∷
+    15 ∷ 46 ∷ 2 ∷ 25 ∷ 3 ∷ 1 ∷
+    0 ∷ 48 ∷ 2 ∷ 26 ∷ 1 ∷ 1 ∷
+    2 ∷ 50 ∷ 2 ∷ 27 ∷ 1 ∷ 1 ∷
+    3 ∷ 52 ∷ 2 ∷ 28 ∷ 1 ∷ 1 ∷
+    4 ∷ 54 ∷ 1 ∷ 29 ∷ 1 ∷ 1 ∷
+    5 ∷ 55 ∷ 3 ∷ 30 ∷ 1 ∷ 1 ∷
+    6 ∷ 58 ∷ 2 ∷ 31 ∷ 1 ∷ 1 ∷
+    8 ∷ 60 ∷ 3 ∷ 32 ∷ 6 ∷ 1 ∷
+    1 ∷ 63 ∷ 2 ∷ 33 ∷ 1 ∷ 1 ∷
+    9 ∷ 65 ∷ 4 ∷ 34 ∷ 7 ∷ 1 ∷
+    10 ∷ 69 ∷ 2 ∷ 35 ∷ 2 ∷ 1 ∷
+    11 ∷ 71 ∷ 3 ∷ 36 ∷ 3 ∷ 1 ∷
+    1 ∷ 74 ∷ 2 ∷ 37 ∷ 1 ∷ 1 ∷
+    12 ∷ 76 ∷ 4 ∷ 38 ∷ 8 ∷ 1 ∷
+    13 ∷ 80 ∷ 3 ∷ 39 ∷ 2 ∷ 1 ∷
+    1 ∷ 83 ∷ 2 ∷ 40 ∷ 1 ∷ 1 ∷
+    14 ∷ 85 ∷ 4 ∷ 41 ∷ 9 ∷ 1 ∷
+    16 ∷ 89 ∷ 3 ∷ 42 ∷ 10 ∷ 1 ∷
+    17 ∷ 92 ∷ 1 ∷ 43 ∷ 1 ∷ 1 ∷
+    17 ∷ 93 ∷ 5 ∷ 44 ∷ 4 ∷ 1 ∷
+    18 ∷ 98 ∷ 3 ∷ 45 ∷ 5 ∷ 1 ∷
+    19 ∷ 101 ∷ 4 ∷ 46 ∷ 6 ∷ 1 ∷
+    17 ∷ 105 ∷ 3 ∷ 47 ∷ 11 ∷ 1 ∷
     []
 
+-- n words, zeros behind the given ones
+abbrev padded : ℕ → List ℕ → List ℕ
+padded zero xs = xs
+padded (suc n) [] = 0 ∷ padded n []
+padded (suc n) (x ∷ xs) = x ∷ padded n xs
+
+abbrev rows : List ℕ
+rows = padded 1536 types ++ padded 1536 storages ++ padded 384 variables ++ padded 384 statics ++ places
+
 abbrev lists : List ℕ
-lists = 2 ∷ 5 ∷ 0 ∷ 6 ∷ 2 ∷ 7 ∷ 8 ∷ 9 ∷ 14 ∷ 20 ∷ 24 ∷ []
+lists =
+    12 ∷ 32 ∷ 2 ∷ 3 ∷ 2 ∷ 5 ∷ 0 ∷ 6 ∷ 2 ∷ 9 ∷ 2 ∷ 40 ∷ 1 ∷ 36 ∷ 0 ∷ 0 ∷ 0 ∷ 100 ∷ 0 ∷ 3 ∷ 7 ∷ 0 ∷ 1 ∷ 0 ∷
+    0 ∷ 1 ∷ 0 ∷ 5 ∷ 5 ∷ 0 ∷ 0 ∷ 0 ∷ 0 ∷ 1 ∷ 1 ∷ 2 ∷ 2 ∷ 2 ∷ 0 ∷ 2 ∷ 3 ∷ 2 ∷ 1 ∷ 0 ∷ 4 ∷ 2 ∷ 1 ∷ 5 ∷
+    0 ∷ 1 ∷ 3 ∷ 5 ∷ 3 ∷ 6 ∷ 1 ∷ 1 ∷ 0 ∷ 4 ∷ 1 ∷ 9 ∷ 2 ∷ 0 ∷ 1 ∷ 2 ∷ 3 ∷ 2 ∷ 0 ∷ 10 ∷ 11 ∷ 3 ∷ 5 ∷ 3 ∷
+    13 ∷ 6 ∷ 2 ∷ 4 ∷ 0 ∷ 0 ∷ 12 ∷ 15 ∷ 2 ∷ 12 ∷ 4 ∷ 2 ∷ 7 ∷ 2 ∷ 17 ∷ 18 ∷ 16 ∷ 1 ∷ 3 ∷ 19 ∷ 4 ∷ 6 ∷ 7 ∷ 8 ∷
+    9 ∷ 14 ∷ 2 ∷ 22 ∷ 1 ∷ 6 ∷ 21 ∷ 0 ∷ 23 ∷ 8 ∷ 20 ∷ 24 ∷
+    []
 
 abbrev counts : Counts
 counts =
@@ -104,9 +132,13 @@ counts =
       statics = 1;
       places = 6;
       nodes = 26;
-      lists = 11;
+      used = 108;
+      stage = 6;
+      lines = 47;
+      sizes = 77;
+      weights = 38;
     }
 
 pub read-right : read-ticket (text ticket) ≡ accepted (tables-of rows nodes lists counts)
-unfolding computing tab cell run type-kind type-kind-at type-line storage-line placed-words placed-list place-kind place-kind-at place-line node-kind node-kind-at node-line tables-of
+unfolding computing tab cell run numbers-at type-word-by type-line storage-line placed-list place-word-by place-line node-word-by node-line tables-of
 read-right = refl

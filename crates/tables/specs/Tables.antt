@@ -1,11 +1,23 @@
--- The tables that the words of three slices stand for. `rows` has 6 words for each type, storage, variable, static and place line, in that
--- order; `nodes` has 8 for each node; `lists` has the numbers of struct, tuple and aggregate lines, a run for each.
-use Prim.Native.Nat.{ℕ, zero, suc, _+_, _*_, _≤_}
+-- The tables that the words of three slices stand for.
+--
+-- `rows` has six words a row, each kind of line from a row of its own on: types from 0, storages from 256, variables from 512,
+-- statics from 576, places from 640, as many as the limits allow. `nodes` has the nodes' rows: they stand behind the places',
+-- and are lent as a slice of their own.
+--
+--   every row   0 the word's number    1 where its numbers start in `lists`    2 how many they are
+--   types       3 size                 4 weight                                5 depth
+--   p and n     3 line                 4 depth                                 5 0, or 1 once referred to
+--
+-- `lists` has the numbers of all lines, one line's behind another's; a node's first number is its TYPE.
+use Prim.Native.Nat.{ℕ, zero, suc, _+_, _-_, _*_, _≤_}
 use mathlib.Core.Bool.{Bool, true, false}
 use mathlib.Core.List.{List, [], _∷_}
 use mathlib.Core.Option.{Option, none, some}
-use lib.ListN.{getD}
+use lib.ListN.{length, getD}
 use lib.Dec.{ltb}
+use Rattle.spec.specs.Limits.{type-lines, storage-lines, variable-lines, static-lines}
+use Rattle.spec.specs.Forms.{rule, type-rules, place-rules, node-rules}
+use Rattle.spec.specs.Read.{behind-type}
 use Rattle.spec.specs.Hir.{At, Expr, Place}
 use Rattle.spec.specs.Ticket.{
   TypeWord,
@@ -51,6 +63,7 @@ use Rattle.spec.specs.Ticket.{
   PlaceLine,
   NodeLine,
   Tables,
+  arg,
   exprOf,
   placeOf,
   exprAt,
@@ -72,42 +85,58 @@ unfoldable pub tab : {A : Type 0} → (ℕ → A) → ℕ → ℕ → List A
 tab f i zero = []
 tab f i (suc n) = f i ∷ tab f (suc i) n
 
--- word j of row k of `count` rows of `width` words that begin behind `base` such rows; d past the last
-unfoldable pub cell : List ℕ → ℕ → ℕ → ℕ → ℕ → ℕ → ℕ → ℕ
-cell ws width base count k j d = pick (ltb k count) (getD ws ((base + k) * width + j) 0) d
+-- word j of row k of the `count` rows from `base` on; d past the last
+unfoldable pub cell : List ℕ → ℕ → ℕ → ℕ → ℕ → ℕ → ℕ
+cell ws base count k j d = pick (ltb k count) (getD ws ((base + k) * 6 + j) 0) d
 
 -- n numbers of the lists
 unfoldable pub run : List ℕ → ℕ → ℕ → List ℕ
 run lists start n = tab (λ i. getD lists i 0) start n
 
+-- the numbers of row k of the `count` rows from `base` on; none past the last
+unfoldable pub numbers-at : List ℕ → List ℕ → ℕ → ℕ → ℕ → List ℕ
+numbers-at ws lists base count k = run lists (cell ws base count k 1 0) (cell ws base count k 2 0)
+
 -- ---------------------------------------------------------------- where each kind of line begins
 
-abbrev pub storages-from : Counts → ℕ
-storages-from c = c .types
+abbrev pub storages-from : ℕ
+storages-from = type-lines
 
-abbrev pub variables-from : Counts → ℕ
-variables-from c = c .types + c .storages
+abbrev pub variables-from : ℕ
+variables-from = storages-from + storage-lines
 
-abbrev pub statics-from : Counts → ℕ
-statics-from c = c .types + c .storages + c .variables
+abbrev pub statics-from : ℕ
+statics-from = variables-from + variable-lines
 
-abbrev pub places-from : Counts → ℕ
-places-from c = c .types + c .storages + c .variables + c .statics
+abbrev pub places-from : ℕ
+places-from = statics-from + static-lines
 
--- ---------------------------------------------------------------- types: word, two numbers, size, weight, depth
+-- ---------------------------------------------------------------- types
 
 abbrev pub type-cell : List ℕ → Counts → ℕ → ℕ → ℕ → ℕ
-type-cell rows c k j d = cell rows 6 0 (c .types) k j d
+type-cell rows c k j d = cell rows 0 (c .types) k j d
 
-unfoldable pub type-kind : ℕ → ℕ → ℕ → TypeKind
-type-kind w a b =
-    getD
-    (TypeKind.Unit ∷ TypeKind.Bool ∷ TypeKind.Bits a ∷ TypeKind.Float a ∷ TypeKind.Pointer ∷ TypeKind.Array a b ∷ TypeKind.Struct a b ∷
-    TypeKind.Tuple a b ∷ TypeKind.Opaque a ∷ [])
-    w TypeKind.Unit
+abbrev pub type-numbers : List ℕ → List ℕ → Counts → ℕ → List ℕ
+type-numbers rows lists c k = numbers-at rows lists 0 (c .types) k
 
-unfoldable pub type-kind-at : List ℕ → Counts → ℕ → TypeKind
-type-kind-at rows c k = type-kind (type-cell rows c k 0 0) (type-cell rows c k 1 0) (type-cell rows c k 2 0)
+-- the word of a number; the first word's where there is no such number
+unfoldable pub type-word-by : ℕ → TypeWord
+type-word-by w = (getD type-rules w (rule "unit" tUnit [])) .make
+
+-- n numbers from s on, a and b the first two of them
+abbrev pub type-kinds : ℕ → ℕ → ℕ → ℕ → List TypeKind
+type-kinds s n a b =
+    TypeKind.Unit ∷ TypeKind.Bool ∷ TypeKind.Bits a ∷ TypeKind.Float a ∷ TypeKind.Pointer ∷ TypeKind.Array a b ∷ TypeKind.Struct s n ∷
+    TypeKind.Tuple s n ∷ TypeKind.Opaque a ∷ []
+
+unfoldable pub type-kind : ℕ → ℕ → ℕ → ℕ → ℕ → TypeKind
+type-kind w s n a b = getD (type-kinds s n a b) w TypeKind.Unit
+
+unfoldable pub type-kind-in : List ℕ → ℕ → ℕ → ℕ → TypeKind
+type-kind-in lists w s n = type-kind w s n (arg (run lists s n) 0) (arg (run lists s n) 1)
+
+unfoldable pub type-kind-at : List ℕ → List ℕ → Counts → ℕ → TypeKind
+type-kind-at rows lists c k = type-kind-in lists (type-cell rows c k 0 0) (type-cell rows c k 1 0) (type-cell rows c k 2 0)
 
 abbrev pub size-at : List ℕ → Counts → ℕ → ℕ
 size-at rows c k = type-cell rows c k 3 0
@@ -140,8 +169,8 @@ type-args lists (TypeKind.Opaque a) = a ∷ []
 unfoldable pub type-line : List ℕ → List ℕ → Counts → ℕ → TypeLine
 type-line rows lists c k =
     record {
-      word = type-word (type-kind-at rows c k);
-      args = type-args lists (type-kind-at rows c k);
+      word = type-word-by (type-cell rows c k 0 0);
+      args = type-numbers rows lists c k;
       size = size-at rows c k;
       weight = weight-at rows c k;
       depth = type-cell rows c k 5 1;
@@ -149,19 +178,19 @@ type-line rows lists c k =
 
 -- ---------------------------------------------------------------- storages, variables and statics
 
-abbrev pub storage-cell : List ℕ → Counts → ℕ → ℕ → ℕ
-storage-cell rows c k j = cell rows 6 (storages-from c) (c .storages) k j 0
+abbrev pub storage-number : List ℕ → List ℕ → Counts → ℕ → ℕ → ℕ
+storage-number rows lists c k i = arg (numbers-at rows lists storages-from (c .storages) k) i
 
-abbrev pub owner-at : List ℕ → Counts → ℕ → ℕ
-owner-at rows c k = storage-cell rows c k 2
+abbrev pub owner-at : List ℕ → List ℕ → Counts → ℕ → ℕ
+owner-at rows lists c k = storage-number rows lists c k 2
 
-unfoldable pub storage-line : List ℕ → Counts → ℕ → StorageLine
-storage-line rows c k =
+unfoldable pub storage-line : List ℕ → List ℕ → Counts → ℕ → StorageLine
+storage-line rows lists c k =
     record {
-      kind = storage-cell rows c k 0;
-      len = storage-cell rows c k 1;
-      owner = owner-at rows c k;
-      regions = storage-cell rows c k 3;
+      kind = storage-number rows lists c k 0;
+      len = storage-number rows lists c k 1;
+      owner = owner-at rows lists c k;
+      regions = storage-number rows lists c k 3;
     }
 
 abbrev pub placed-line : Placed → PlacedLine
@@ -171,39 +200,41 @@ abbrev pub placed-option : PlacedAt → Option PlacedLine
 placed-option (PlacedAt.Found p) = some (placed-line p)
 placed-option PlacedAt.Missing = none
 
-unfoldable pub placed-words : List ℕ → ℕ → ℕ → ℕ → Placed
-placed-words rows base count k =
-    record {
-      storage = cell rows 6 base count k 0 0;
-      offset = cell rows 6 base count k 1 0;
-      ty = cell rows 6 base count k 2 0;
-      bit = cell rows 6 base count k 3 0;
-    }
+abbrev pub placed-of : List ℕ → Placed
+placed-of xs = record { storage = arg xs 0; offset = arg xs 1; ty = arg xs 2; bit = arg xs 3 }
 
-unfoldable pub placed-at : List ℕ → ℕ → ℕ → ℕ → PlacedAt
-placed-at rows base count k = pick (ltb k count) (PlacedAt.Found (placed-words rows base count k)) PlacedAt.Missing
+unfoldable pub placed-at : List ℕ → List ℕ → ℕ → ℕ → ℕ → PlacedAt
+placed-at rows lists base count k = pick (ltb k count) (PlacedAt.Found (placed-of (numbers-at rows lists base count k))) PlacedAt.Missing
 
-unfoldable pub placed-list : List ℕ → ℕ → ℕ → List PlacedLine
-placed-list rows base count = tab (λ k. placed-line (placed-words rows base count k)) 0 count
+unfoldable pub placed-list : List ℕ → List ℕ → ℕ → ℕ → List PlacedLine
+placed-list rows lists base count = tab (λ k. placed-line (placed-of (numbers-at rows lists base count k))) 0 count
 
-abbrev pub variables-of : List ℕ → Counts → List PlacedLine
-variables-of rows c = placed-list rows (variables-from c) (c .variables)
+abbrev pub variables-of : List ℕ → List ℕ → Counts → List PlacedLine
+variables-of rows lists c = placed-list rows lists variables-from (c .variables)
 
-abbrev pub statics-of : List ℕ → Counts → List PlacedLine
-statics-of rows c = placed-list rows (statics-from c) (c .statics)
+abbrev pub statics-of : List ℕ → List ℕ → Counts → List PlacedLine
+statics-of rows lists c = placed-list rows lists statics-from (c .statics)
 
--- ---------------------------------------------------------------- places: word, two numbers, line, depth
+-- ---------------------------------------------------------------- places
 
 abbrev pub place-cell : List ℕ → Counts → ℕ → ℕ → ℕ
-place-cell rows c k j = cell rows 6 (places-from c) (c .places) k j 0
+place-cell rows c k j = cell rows places-from (c .places) k j 0
+
+abbrev pub place-numbers : List ℕ → List ℕ → Counts → ℕ → List ℕ
+place-numbers rows lists c k = numbers-at rows lists places-from (c .places) k
+
+unfoldable pub place-word-by : ℕ → PlaceWord
+place-word-by w = (getD place-rules w (rule "variable" pVariable [])) .make
+
+abbrev pub place-kinds : ℕ → ℕ → List PlaceKind
+place-kinds a b = PlaceKind.Variable a ∷ PlaceKind.Static a ∷ PlaceKind.Field a b ∷ PlaceKind.Element a b ∷ PlaceKind.Offset a b ∷ []
 
 unfoldable pub place-kind : ℕ → ℕ → ℕ → PlaceKind
-place-kind w a b =
-    getD (PlaceKind.Variable a ∷ PlaceKind.Static a ∷ PlaceKind.Field a b ∷ PlaceKind.Element a b ∷ PlaceKind.Offset a b ∷ []) w
-    (PlaceKind.Variable a)
+place-kind w a b = getD (place-kinds a b) w (PlaceKind.Variable a)
 
-unfoldable pub place-kind-at : List ℕ → Counts → ℕ → PlaceKind
-place-kind-at rows c k = place-kind (place-cell rows c k 0) (place-cell rows c k 1) (place-cell rows c k 2)
+unfoldable pub place-kind-at : List ℕ → List ℕ → Counts → ℕ → PlaceKind
+place-kind-at rows lists c k =
+    place-kind (place-cell rows c k 0) (arg (place-numbers rows lists c k) 0) (arg (place-numbers rows lists c k) 1)
 
 abbrev pub place-word : PlaceKind → PlaceWord
 place-word (PlaceKind.Variable a) = pVariable
@@ -219,38 +250,53 @@ place-args (PlaceKind.Field a b) = a ∷ b ∷ []
 place-args (PlaceKind.Element a b) = a ∷ b ∷ []
 place-args (PlaceKind.Offset a b) = a ∷ b ∷ []
 
-unfoldable pub place-line : List ℕ → Counts → ℕ → PlaceLine
-place-line rows c k =
+unfoldable pub place-line : List ℕ → List ℕ → Counts → ℕ → PlaceLine
+place-line rows lists c k =
     record {
-      word = place-word (place-kind-at rows c k);
-      args = place-args (place-kind-at rows c k);
+      word = place-word-by (place-cell rows c k 0);
+      args = place-numbers rows lists c k;
       line = place-cell rows c k 3;
       depth = place-cell rows c k 4;
     }
 
--- ---------------------------------------------------------------- nodes: type, word, three numbers, line, depth
+-- ---------------------------------------------------------------- nodes
 
 abbrev pub node-cell : List ℕ → Counts → ℕ → ℕ → ℕ → ℕ
-node-cell nodes c k j d = cell nodes 8 0 (c .nodes) k j d
+node-cell nodes c k j d = cell nodes 0 (c .nodes) k j d
 
-unfoldable pub node-kind : ℕ → ℕ → ℕ → ℕ → NodeKind
-node-kind w a b c =
-    getD
-    (NodeKind.Bool a ∷ NodeKind.Int a ∷ NodeKind.F32 a ∷ NodeKind.F64 a ∷ NodeKind.Null ∷ NodeKind.StaticAddress a b ∷ NodeKind.Function a ∷
+abbrev pub node-numbers : List ℕ → List ℕ → Counts → ℕ → List ℕ
+node-numbers nodes lists c k = numbers-at nodes lists 0 (c .nodes) k
+
+unfoldable pub node-word-by : ℕ → NodeWord
+node-word-by w = (getD node-rules w (rule "null" nNull [])) .make
+
+-- n numbers from s on, a, b and c the first three of them
+abbrev pub node-kinds : ℕ → ℕ → ℕ → ℕ → ℕ → List NodeKind
+node-kinds s n a b c =
+    NodeKind.Bool a ∷ NodeKind.Int a ∷ NodeKind.F32 a ∷ NodeKind.F64 a ∷ NodeKind.Null ∷ NodeKind.StaticAddress a b ∷ NodeKind.Function a ∷
     NodeKind.Read a ∷ NodeKind.Unary a b ∷ NodeKind.Binary a b c ∷ NodeKind.Funary a ∷ NodeKind.Fbinary a b ∷ NodeKind.Compare a b c ∷
-    NodeKind.Convert a b ∷ NodeKind.Select a b c ∷ NodeKind.Address a ∷ NodeKind.Offset a b ∷ NodeKind.Aggregate a b ∷ NodeKind.Extract a b ∷
-    NodeKind.Insert a b c ∷ [])
-    w NodeKind.Null
+    NodeKind.Convert a b ∷ NodeKind.Select a b c ∷ NodeKind.Address a ∷ NodeKind.Offset a b ∷ NodeKind.Aggregate s n ∷ NodeKind.Extract a b ∷
+    NodeKind.Insert a b c ∷ []
+
+unfoldable pub node-kind : ℕ → ℕ → ℕ → ℕ → ℕ → ℕ → NodeKind
+node-kind w s n a b c = getD (node-kinds s n a b c) w NodeKind.Null
+
+unfoldable pub node-kind-in : List ℕ → ℕ → ℕ → ℕ → NodeKind
+node-kind-in lists w s n = node-kind w s n (arg (run lists s n) 0) (arg (run lists s n) 1) (arg (run lists s n) 2)
+
+-- one number on; past the end of the lists each number is 0, as is the next
+unfoldable pub behind : List ℕ → ℕ → ℕ
+behind lists s = pick (ltb s (length lists)) (s + 1) s
 
 -- the word of a number that no line has is that of `null`
-unfoldable pub node-kind-at : List ℕ → Counts → ℕ → NodeKind
-node-kind-at nodes c k = node-kind (node-cell nodes c k 1 4) (node-cell nodes c k 2 0) (node-cell nodes c k 3 0) (node-cell nodes c k 4 0)
+unfoldable pub node-kind-at : List ℕ → List ℕ → Counts → ℕ → NodeKind
+node-kind-at nodes lists c k = node-kind-in lists (node-cell nodes c k 0 4) (behind lists (node-cell nodes c k 1 0)) (node-cell nodes c k 2 0 - 1)
 
-abbrev pub node-type-at : List ℕ → Counts → ℕ → ℕ
-node-type-at nodes c k = node-cell nodes c k 0 0
+abbrev pub node-type-at : List ℕ → List ℕ → Counts → ℕ → ℕ
+node-type-at nodes lists c k = arg (node-numbers nodes lists c k) 0
 
 abbrev pub node-line-at : List ℕ → Counts → ℕ → ℕ
-node-line-at nodes c k = node-cell nodes c k 5 0
+node-line-at nodes c k = node-cell nodes c k 3 0
 
 abbrev pub node-word : NodeKind → NodeWord
 node-word (NodeKind.Bool a) = nBool
@@ -299,11 +345,11 @@ node-args lists (NodeKind.Insert a b c) = a ∷ b ∷ c ∷ []
 unfoldable pub node-line : List ℕ → List ℕ → Counts → ℕ → NodeLine
 node-line nodes lists c k =
     record {
-      type = node-type-at nodes c k;
-      word = node-word (node-kind-at nodes c k);
-      args = node-args lists (node-kind-at nodes c k);
+      type = node-type-at nodes lists c k;
+      word = node-word-by (node-cell nodes c k 0 4);
+      args = behind-type (node-numbers nodes lists c k);
       line = node-line-at nodes c k;
-      depth = node-cell nodes c k 6 0;
+      depth = node-cell nodes c k 4 0;
     }
 
 -- ---------------------------------------------------------------- the tables
@@ -314,10 +360,10 @@ tables-of rows nodes lists c =
       function = c .function;
       next = c .next;
       types = tab (type-line rows lists c) 0 (c .types);
-      storages = tab (storage-line rows c) 0 (c .storages);
-      variables = variables-of rows c;
-      statics = statics-of rows c;
-      places = tab (place-line rows c) 0 (c .places);
+      storages = tab (storage-line rows lists c) 0 (c .storages);
+      variables = variables-of rows lists c;
+      statics = statics-of rows lists c;
+      places = tab (place-line rows lists c) 0 (c .places);
       nodes = tab (node-line nodes lists c) 0 (c .nodes);
     }
 
@@ -329,8 +375,8 @@ tree-of T lists d h n = exprOf (λ k. placeAt d T k) (λ k. exprAt d T k) h (nod
 abbrev pub place-of : Tables → ℕ → PlaceKind → Place
 place-of T d p = placeOf (λ k. placeAt d T k) (λ k. exprAt d T k) (place-word p) (place-args p)
 
-abbrev pub at-of : List ℕ → Counts → ℕ → At
-at-of nodes c k = record { line = node-line-at nodes c k; node = k; ty = node-type-at nodes c k }
+abbrev pub at-of : List ℕ → List ℕ → Counts → ℕ → At
+at-of nodes lists c k = record { line = node-line-at nodes c k; node = k; ty = node-type-at nodes lists c k }
 
 -- ---------------------------------------------------------------- small enough for a word's place to be worked out
 

@@ -10,10 +10,10 @@ use mathlib.Core.Logic.{⊎-elim}
 use lib.Dec.{eqb, ltb}
 use lib.ListN.{length, getD}
 use borrow.Author.Tests.{ltb-true}
-use Rattle.fields.specs.Tab.{run}
+use Rattle.tables.specs.Tables.{run, storages-from, variables-from, statics-from, places-from}
 use Rattle.spec.specs.Ticket.{arg}
 use Rattle.ticket.specs.Rows.{
-  cell,
+  word-at,
   Row,
   rowAt,
   section,
@@ -31,26 +31,22 @@ use Rattle.ticket.specs.Rows.{
   Inside,
   Held,
   RowPut,
-  storages-from,
-  variables-from,
-  statics-from,
-  places-from,
   nodes-from,
 }
 use Rattle.ticket.specs.Steps.{fewOf}
 use Rattle.ticket.specs.Grown.{grown, Added}
 use Rattle.ticket.specs.declared.LineKind.{LineKind}
 use Rattle.ticket.specs.declared.LineKind.the-variants.{Functions, Types, Storages, Variables, Statics, Places, Nodes}
-use Rattle.ticket.specs.declared.Counts.{Counts}
+use Rattle.tables.specs.declared.Counts.{Counts}
 use Rattle.ticket.specs.declared.Extent.{Extent}
 use Rattle.ticket.proofs.RowLaws.{section-more, section-kept}
 
 module _ (u t : List ℕ) (used used′ base cnt : ℕ) (i : Inside u used base cnt) (l : used ≤ used′) where
-  before : (k : ℕ) → k < cnt → rowAt t (base + k) ≡ rowAt u (base + k) → cell t (base + k) 1 + cell t (base + k) 2 ≤ used′
+  before : (k : ℕ) → k < cnt → rowAt t (base + k) ≡ rowAt u (base + k) → word-at t (base + k) 1 + word-at t (base + k) 2 ≤ used′
   unfolding rowAt
   before k h e =
-      let a : cell t (base + k) 1 ≡ cell u (base + k) 1 = ap (λ (r : Row). r .start) e in
-      let b : cell t (base + k) 2 ≡ cell u (base + k) 2 = ap (λ (r : Row). r .count) e in
+      let a : word-at t (base + k) 1 ≡ word-at u (base + k) 1 = ap (λ (r : Row). r .start) e in
+      let b : word-at t (base + k) 2 ≡ word-at u (base + k) 2 = ap (λ (r : Row). r .count) e in
       omega (arith, i .ends k h)
 
   inside-kept : (r : ℕ) (x : Row) → RowPut u t r x → ((k : ℕ) → k < cnt → base + k ≡ r → ⊥) → Inside t used′ base cnt
@@ -66,7 +62,7 @@ module _ (u t : List ℕ) (used used′ base cnt : ℕ) (i : Inside u used base 
       other : (k : ℕ) → k < cnt → base + k ≡ base + cnt → ⊥
       other k h e = omega arith
 
-      by : (k : ℕ) → k < cnt + 1 → cell t (base + k) 1 + cell t (base + k) 2 ≤ used′
+      by : (k : ℕ) → k < cnt + 1 → word-at t (base + k) 1 + word-at t (base + k) 2 ≤ used′
       by k h =
           ⊎-elim
           (λ (e : k ≡ cnt). rw (e, ap (λ (r : Row). r .start) (p .here), ap (λ (r : Row). r .count) (p .here)) g)

@@ -10,7 +10,7 @@ use native.Mathlib.Nat.{zero-add, add-zero}
 use lib.Dec.{eqb, leb, ltb}
 use lib.ListN.{length, getD, set}
 use borrow.Author.Tests.{le-leb, lt-leb, eq-eqb, ne-eqb}
-use Rattle.fields.specs.Tab.{tab, pick, run}
+use Rattle.tables.specs.Tables.{tab, pick, run, places-from}
 use Rattle.fields.proofs.Tabs.{tab-here, tab-done, tab-same}
 use Rattle.spec.specs.Ticket.{arg}
 use Rattle.spec.specs.Forms.{Field, between, float-width, type-part, type, storage, place, node, Arg, values}
@@ -31,10 +31,10 @@ use Rattle.spec.specs.Read.{
   first-failed,
 }
 use Rattle.ticket.specs.Classes.{classAt, argAt, formArg, argsOf}
-use Rattle.ticket.specs.Rows.{Row, cell, rowAt, section, marked, usedOf, places-from, nodes-from, MarkAt, Few}
+use Rattle.ticket.specs.Rows.{Row, rowAt, section, marked, usedOf, nodes-from, MarkAt, Few}
 use Rattle.ticket.specs.Steps.{earlierIn, earlierArg, depthIn, deepestIn, Alike, Marking, MarkedAll}
 use Rattle.ticket.specs.declared.Form.{Form}
-use Rattle.ticket.specs.declared.Counts.{Counts}
+use Rattle.tables.specs.declared.Counts.{Counts}
 use Rattle.ticket.proofs.RowLaws.{section-same}
 
 -- ---------------------------------------------------------------- small tests

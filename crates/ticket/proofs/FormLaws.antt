@@ -11,7 +11,7 @@ use lib.Dec.{eqb, leb, eqb·suc-suc, leb·suc-suc, eqb·suc-zero, eqb·zero-suc,
 use lib.ListN.{length, getD, List·getD-map}
 use borrow.Author.Tests.{le-leb, lt-leb, leb-true}
 use Rattle.spec.specs.Text.{bytes, same, split, number, comma}
-use Rattle.fields.specs.Tab.{tab, pick}
+use Rattle.tables.specs.Tables.{tab, pick, type-word-by, place-word-by, node-word-by}
 use Rattle.fields.specs.Fields.{position, numbers-of, cons-number, onto, Taken, taken, first-word, wordOf, WordAt, first-number, decimalOf, NumberAt, fields-from}
 use Rattle.fields.specs.declared.Cursor.{Cursor}
 use Rattle.fields.specs.declared.Keyword.{Keyword}
@@ -393,7 +393,7 @@ node-letter w n =
 module _ (s : List ℕ) (p : ℕ) (r : Keyword) where
   pub type-word : (w : ℕ) (c : Cursor) → WordAt s (bytes "unit,bool,bits,float,pointer,array,struct,tuple,opaque") p r → r ≡ Word w c
       → type-form (fields-from s p) ≡ formBy Types w (getD (bytes "001102::1") w 48) (numbers-of (fields-from s (c .at)))
-  unfolding type-go rule-at typeRule
+  unfolding type-go rule-at typeRule type-word-by
   type-word w c a g =
       word-took type-form type-go (split comma (bytes "unit,bool,bits,float,pointer,array,struct,tuple,opaque")) type-goes
       (fields-from s p) w (fields-from s (c .at)) (ap (wordOf s) (sym g) ∙ a .answer)
@@ -407,7 +407,7 @@ module _ (s : List ℕ) (p : ℕ) (r : Keyword) where
 
   pub place-word : (w : ℕ) (c : Cursor) → WordAt s (bytes "variable,static,field,element,offset") p r → r ≡ Word w c
       → place-form (fields-from s p) ≡ formBy Places w (getD (bytes "11222") w 48) (numbers-of (fields-from s (c .at)))
-  unfolding place-go rule-at placeRule
+  unfolding place-go rule-at placeRule place-word-by
   place-word w c a g =
       word-took place-form place-go (split comma (bytes "variable,static,field,element,offset")) place-goes
       (fields-from s p) w (fields-from s (c .at)) (ap (wordOf s) (sym g) ∙ a .answer)
@@ -464,7 +464,7 @@ module _ (vs : List (List ℕ)) (ty : ℕ) (rest : List (List ℕ)) where
   node-took : (ws : List (List ℕ)) (k : ℕ) (rest′ : List (List ℕ)) → some (record { value = ty; rest = rest }) ≡ first-number ws
       → some (record { value = k; rest = rest′ }) ≡ first-word (split comma (bytes node-words)) rest
       → node-form ws ≡ formBy Nodes k (getD (bytes "22221322342343423;34") k 49) (onto (ty ∷ []) (numbers-of rest′))
-  unfolding first-number node-form node-after node-go rule-at nodeRule numbers-of
+  unfolding first-number node-form node-after node-go rule-at nodeRule node-word-by numbers-of
   node-took [] k rest′ e g = absurd (let z : _≡_ {A = ℕ} 0 1 = cc in omega arith)
   node-took (t ∷ ws) k rest′ e g = by (number t) refl e
     where

@@ -9,7 +9,7 @@ use native.Mathlib.Omega.{arith}
 use lib.Dec.{eqb, leb, ltb, lit<}
 use lib.ListN.{length, getD}
 use borrow.Author.Tests.{le-leb, lt-leb, eqb-false, ltb-true, not-false}
-use Rattle.fields.specs.Tab.{pick, run}
+use Rattle.tables.specs.Tables.{pick, run, storages-from, variables-from, statics-from, places-from, cell}
 use Rattle.spec.specs.Limits.{size-sum-limit, weight-sum-limit}
 use Rattle.spec.specs.Read.{Used, Reading, Step, stop, go, once, mark}
 use Rattle.ticket.specs.Classes.{argsOf}
@@ -22,21 +22,16 @@ use Rattle.ticket.specs.Rows.{
   Few,
   Inside,
   Held,
-  cell,
+  word-at,
   Row,
   rowAt,
   section,
-  entryAt,
   numbers,
   typeRow,
   storageRow,
   placedRow,
   placeRow,
   nodeRow,
-  storages-from,
-  variables-from,
-  statics-from,
-  places-from,
   nodes-from,
 }
 use Rattle.ticket.specs.declared.LineKind.the-variants.{Functions, Types, Storages, Variables, Statics, Places, Nodes}
@@ -65,7 +60,7 @@ use Rattle.ticket.specs.Judged.{
   Judged,
 }
 use Rattle.ticket.specs.declared.LineKind.{LineKind}
-use Rattle.ticket.specs.declared.Counts.{Counts}
+use Rattle.tables.specs.declared.Counts.{Counts}
 use Rattle.ticket.specs.declared.Extent.{Extent}
 use Rattle.ticket.specs.declared.Form.{Form}
 use Rattle.ticket.specs.declared.Capped.{Capped}
@@ -167,15 +162,15 @@ module _ (ws ls : List ℕ) (c : Counts) (f : Form) (b : Bool) (p : b ≡ typesI
 -- ---------------------------------------------------------------- words that differ in marks alone
 
 module _ (u t ls : List ℕ) (c : Counts) (few : Few c) (a : Alike u t) where
-  alike-entry : (base n k j other : ℕ) → (j ≡ 5 → ⊥) → j < 6 → entryAt t base n k j other ≡ entryAt u base n k j other
-  unfolding entryAt
+  alike-entry : (base n k j other : ℕ) → (j ≡ 5 → ⊥) → j < 6 → cell t base n k j other ≡ cell u base n k j other
+  unfolding cell word-at
   alike-entry base n k j other h l = rw (a .cells (base + k) j h l)
 
-  alike-types : (k : ℕ) → entryAt t 0 (c .types) k 5 1 ≡ entryAt u 0 (c .types) k 5 1
-  unfolding entryAt rowAt
+  alike-types : (k : ℕ) → cell t 0 (c .types) k 5 1 ≡ cell u 0 (c .types) k 5 1
+  unfolding cell word-at rowAt
   alike-types k = by (ltb k (c .types)) refl
     where
-      by : (b : Bool) → ltb k (c .types) ≡ b → pick b (cell t (0 + k) 5) 1 ≡ pick b (cell u (0 + k) 5) 1
+      by : (b : Bool) → ltb k (c .types) ≡ b → pick b (word-at t (0 + k) 5) 1 ≡ pick b (word-at u (0 + k) 5) 1
       by true e = ap (λ (r : Row). r .fifth) (a .rows (0 + k) (omega (arith, ltb-true k (c .types) e, few .types)))
       by false e = refl
 
@@ -214,19 +209,19 @@ module _ (u t ls : List ℕ) (c : Counts) (few : Few c) (a : Alike u t) where
       section-same (placeRow ls) u t base n
       (λ k l. rw (c0 (base + k), c1 (base + k), c2 (base + k), c3 (base + k), c4 (base + k)))
     where
-      c0 : (q : ℕ) → cell t q 0 ≡ cell u q 0
+      c0 : (q : ℕ) → word-at t q 0 ≡ word-at u q 0
       c0 q = a .cells q 0 (λ e. eqb-false 0 5 refl e) (lit< tt)
 
-      c1 : (q : ℕ) → cell t q 1 ≡ cell u q 1
+      c1 : (q : ℕ) → word-at t q 1 ≡ word-at u q 1
       c1 q = a .cells q 1 (λ e. eqb-false 1 5 refl e) (lit< tt)
 
-      c2 : (q : ℕ) → cell t q 2 ≡ cell u q 2
+      c2 : (q : ℕ) → word-at t q 2 ≡ word-at u q 2
       c2 q = a .cells q 2 (λ e. eqb-false 2 5 refl e) (lit< tt)
 
-      c3 : (q : ℕ) → cell t q 3 ≡ cell u q 3
+      c3 : (q : ℕ) → word-at t q 3 ≡ word-at u q 3
       c3 q = a .cells q 3 (λ e. eqb-false 3 5 refl e) (lit< tt)
 
-      c4 : (q : ℕ) → cell t q 4 ≡ cell u q 4
+      c4 : (q : ℕ) → word-at t q 4 ≡ word-at u q 4
       c4 q = a .cells q 4 (λ e. eqb-false 4 5 refl e) (lit< tt)
 
   node-rows : (base n : ℕ) → section (nodeRow ls) t base n ≡ section (nodeRow ls) u base n
@@ -235,19 +230,19 @@ module _ (u t ls : List ℕ) (c : Counts) (few : Few c) (a : Alike u t) where
       section-same (nodeRow ls) u t base n
       (λ k l. rw (c0 (base + k), c1 (base + k), c2 (base + k), c3 (base + k), c4 (base + k)))
     where
-      c0 : (q : ℕ) → cell t q 0 ≡ cell u q 0
+      c0 : (q : ℕ) → word-at t q 0 ≡ word-at u q 0
       c0 q = a .cells q 0 (λ e. eqb-false 0 5 refl e) (lit< tt)
 
-      c1 : (q : ℕ) → cell t q 1 ≡ cell u q 1
+      c1 : (q : ℕ) → word-at t q 1 ≡ word-at u q 1
       c1 q = a .cells q 1 (λ e. eqb-false 1 5 refl e) (lit< tt)
 
-      c2 : (q : ℕ) → cell t q 2 ≡ cell u q 2
+      c2 : (q : ℕ) → word-at t q 2 ≡ word-at u q 2
       c2 q = a .cells q 2 (λ e. eqb-false 2 5 refl e) (lit< tt)
 
-      c3 : (q : ℕ) → cell t q 3 ≡ cell u q 3
+      c3 : (q : ℕ) → word-at t q 3 ≡ word-at u q 3
       c3 q = a .cells q 3 (λ e. eqb-false 3 5 refl e) (lit< tt)
 
-      c4 : (q : ℕ) → cell t q 4 ≡ cell u q 4
+      c4 : (q : ℕ) → word-at t q 4 ≡ word-at u q 4
       c4 q = a .cells q 4 (λ e. eqb-false 4 5 refl e) (lit< tt)
 
   pub tables-alike : tablesOf t ls c ≡ tablesOf u ls c

@@ -2,10 +2,10 @@ pub mod FormLaws
 pub mod Numbered
 pub mod LineForms
 pub mod RowLaws
+pub mod TableLaws
 pub mod CheckLaws
 pub mod MeasureLaws
 pub mod AddLaws
 pub mod JudgeLaws
 pub mod StepLaws
 pub mod ReadLaws
-pub mod LookLaws

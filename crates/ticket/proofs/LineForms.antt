@@ -10,7 +10,7 @@ use native.Mathlib.Nat.{add-zero}
 use lib.ListN.{length, getD, set, length-set}
 use lib.Seq.{getD-set-same, getD-set-other}
 use Rattle.spec.specs.Text.{bytes}
-use Rattle.fields.specs.Tab.{tab, run}
+use Rattle.tables.specs.Tables.{tab, run}
 use Rattle.fields.specs.Fields.{numbers-of, onto, fields-from, Kept, WordAt, NumberAt}
 use Rattle.fields.specs.declared.Cursor.{Cursor}
 use Rattle.fields.specs.declared.Keyword.{Keyword}

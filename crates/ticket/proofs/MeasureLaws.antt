@@ -11,19 +11,18 @@ use lib.Dec.{eqb, leb, ltb, lit≤}
 use lib.ListN.{length, getD, List·getD-map}
 use borrow.Author.Tests.{le-leb, lt-leb, eq-eqb, ne-eqb, leb-false, lt-ltb}
 use Rattle.spec.specs.Text.{same}
-use Rattle.fields.specs.Tab.{tab, pick, run}
+use Rattle.tables.specs.Tables.{tab, pick, run, cell, type-word-by}
 use Rattle.fields.proofs.Tabs.{tab-here, tab-done, same-lengths}
 use Rattle.spec.specs.Limits.{type-size-limit, type-weight-limit}
 use Rattle.spec.specs.Ticket.{TypeWord, tUnit, TypeLine, arg, sum, type-size-by, weight-by}
 use Rattle.spec.specs.Forms.{Rule, rule, type-rules}
 use Rattle.spec.specs.Read.{alike, type-number}
-use Rattle.ticket.specs.Classes.{typeRule, typeWord}
-use Rattle.ticket.specs.Rows.{Row, rowAt, section, typeRow, cell, entryAt, numbers, Held}
-use Rattle.ticket.specs.declared.Counts.{Counts}
+use Rattle.ticket.specs.Rows.{Row, rowAt, section, typeRow, word-at, numbers, Held}
+use Rattle.tables.specs.declared.Counts.{Counts}
 use Rattle.ticket.specs.Steps.{capped, cappedOf, moreOf, measured, Measure, alikeTo}
 use Rattle.ticket.specs.declared.Capped.{Capped}
 use Rattle.ticket.specs.declared.Capped.the-variants.{Within, Over}
-use Rattle.ticket.proofs.Numbered.{length-run}
+use Rattle.tables.proofs.Laws.{length-run}
 use Rattle.ticket.proofs.LineForms.{getD-outside}
 
 pub cap-in : (limit n : ℕ) → n ≤ limit → some n ≡ capped limit n
@@ -89,11 +88,11 @@ module _ (o : Option ℕ) (f : ℕ → ℕ) (ls : List ℕ) (limit total a i n :
 type-numbers : List ℕ
 type-numbers = 0 ∷ 1 ∷ 2 ∷ 3 ∷ 4 ∷ 5 ∷ 6 ∷ 7 ∷ 8 ∷ []
 
-number-at : (w : ℕ) → getD type-numbers w 0 ≡ type-number (typeWord w)
-unfolding typeRule type-numbers
+number-at : (w : ℕ) → getD type-numbers w 0 ≡ type-number (type-word-by w)
+unfolding type-word-by type-numbers
 number-at w = List·getD-map (λ (r : Rule TypeWord). type-number (r .make)) type-rules w (rule "unit" tUnit [])
 
-pub number-in : (w : ℕ) → w < 9 → w ≡ type-number (typeWord w)
+pub number-in : (w : ℕ) → w < 9 → w ≡ type-number (type-word-by w)
 unfolding type-numbers
 number-in w h = by w h ∙ number-at w
   where
@@ -109,18 +108,18 @@ number-in w h = by w h ∙ number-at w
     by (suc (suc (suc (suc (suc (suc (suc (suc zero)))))))) h = refl
     by (suc (suc (suc (suc (suc (suc (suc (suc (suc w))))))))) h = absurd (omega arith)
 
-pub number-out : (w : ℕ) → 9 ≤ w → 0 ≡ type-number (typeWord w)
+pub number-out : (w : ℕ) → 9 ≤ w → 0 ≡ type-number (type-word-by w)
 unfolding type-numbers
 number-out w h = getD-outside type-numbers w 0 h ∙ number-at w
 
 -- ---------------------------------------------------------------- alike types
 
-module _ (ls ws : List ℕ) (word w n : ℕ) (xs : List ℕ) (e : w ≡ type-number (typeWord word)) where
-  pub alike-start : alike (typeWord word) xs (section (typeRow ls) ws 0 n) ≡ alike (typeWord word) xs (tab (λ k. typeRow ls (rowAt ws (0 + k))) 0 (n - 0))
+module _ (ls ws : List ℕ) (word w n : ℕ) (xs : List ℕ) (e : w ≡ type-number (type-word-by word)) where
+  pub alike-start : alike (type-word-by word) xs (section (typeRow ls) ws 0 n) ≡ alike (type-word-by word) xs (tab (λ k. typeRow ls (rowAt ws (0 + k))) 0 (n - 0))
   unfolding section
   alike-start = let z : n - 0 ≡ n = omega arith in rw z
 
-  module _ (o : Bool) (i : ℕ) (q : o ≡ alike (typeWord word) xs (tab (λ k. typeRow ls (rowAt ws (0 + k))) i (n - i))) where
+  module _ (o : Bool) (i : ℕ) (q : o ≡ alike (type-word-by word) xs (tab (λ k. typeRow ls (rowAt ws (0 + k))) i (n - i))) where
     pub alike-end : n ≤ i → false ≡ o
     unfolding alike
     alike-end h = sym (q ∙ rw (tab-done (λ k. typeRow ls (rowAt ws (0 + k))) i n h))
@@ -130,7 +129,7 @@ module _ (ls ws : List ℕ) (word w n : ℕ) (xs : List ℕ) (e : w ≡ type-num
     alike-here b h p g = sym (q ∙ rw (tab-here (λ k. typeRow ls (rowAt ws (0 + k))) i n h, zero-add, ← e, ← p, g))
 
     pub alike-next : (b : Bool) → i < n → b ≡ alikeTo w xs (typeRow ls (rowAt ws i)) → b ≡ false
-        → o ≡ alike (typeWord word) xs (tab (λ k. typeRow ls (rowAt ws (0 + k))) (i + 1) (n - (i + 1)))
+        → o ≡ alike (type-word-by word) xs (tab (λ k. typeRow ls (rowAt ws (0 + k))) (i + 1) (n - (i + 1)))
     unfolding alike
     alike-next b h p g = q ∙ rw (tab-here (λ k. typeRow ls (rowAt ws (0 + k))) i n h, zero-add, ← e, ← p, g)
 
@@ -208,8 +207,8 @@ pub ruleset measuring = (size-over, weight-over, measured-in)
 -- ---------------------------------------------------------------- words without parts
 
 pub unit-size : (f : ℕ → ℕ) (w : ℕ) (xs : List ℕ) → (w ≡ 1 → ⊥) → (w ≡ 2 → ⊥) → (w ≡ 3 → ⊥) → (w ≡ 4 → ⊥) → (w ≡ 5 → ⊥) → (w ≡ 6 → ⊥) → (w ≡ 7 → ⊥) → (w ≡ 8 → ⊥)
-    → type-size-by f (typeWord w) xs ≡ 0
-unfolding typeRule
+    → type-size-by f (type-word-by w) xs ≡ 0
+unfolding type-word-by
 unit-size f zero xs a b c d e g h i = refl
 unit-size f (suc zero) xs a b c d e g h i = absurd (a refl)
 unit-size f (suc (suc zero)) xs a b c d e g h i = absurd (b refl)
@@ -221,8 +220,8 @@ unit-size f (suc (suc (suc (suc (suc (suc (suc zero))))))) xs a b c d e g h i = 
 unit-size f (suc (suc (suc (suc (suc (suc (suc (suc zero)))))))) xs a b c d e g h i = absurd (i refl)
 unit-size f (suc (suc (suc (suc (suc (suc (suc (suc (suc w))))))))) xs a b c d e g h i = refl
 
-pub plain-weight : (f : ℕ → ℕ) (w : ℕ) (xs : List ℕ) → (w ≡ 5 → ⊥) → (w ≡ 6 → ⊥) → (w ≡ 7 → ⊥) → weight-by f (typeWord w) xs ≡ 1
-unfolding typeRule
+pub plain-weight : (f : ℕ → ℕ) (w : ℕ) (xs : List ℕ) → (w ≡ 5 → ⊥) → (w ≡ 6 → ⊥) → (w ≡ 7 → ⊥) → weight-by f (type-word-by w) xs ≡ 1
+unfolding type-word-by
 plain-weight f zero xs e g h = refl
 plain-weight f (suc zero) xs e g h = refl
 plain-weight f (suc (suc zero)) xs e g h = refl
@@ -236,28 +235,28 @@ plain-weight f (suc (suc (suc (suc (suc (suc (suc (suc (suc w))))))))) xs e g h 
 
 -- ---------------------------------------------------------------- a row compared
 
-pub entry-cell : (ws : List ℕ) (n k j other v : ℕ) → k < n → v ≡ entryAt ws 0 n k j other → v ≡ cell ws k j
-unfolding entryAt
-entry-cell ws n k j other v h e = e ∙ rw (lt-ltb k n h, zero-add)
+pub row-cell : (ws : List ℕ) (n k j other v : ℕ) → k < n → v ≡ cell ws 0 n k j other → v ≡ word-at ws k j
+unfolding cell word-at
+row-cell ws n k j other v h e = e ∙ rw (lt-ltb k n h, zero-add)
 
-module _ (ls ws xs : List ℕ) (n k w v m : ℕ) (h : k < n) (p : v ≡ entryAt ws 0 n k 0 0) (q : m ≡ type-number (typeWord v)) where
+module _ (ls ws xs : List ℕ) (n k w v m : ℕ) (h : k < n) (p : v ≡ cell ws 0 n k 0 0) (q : m ≡ type-number (type-word-by v)) where
   pub row-other : (m ≡ w → ⊥) → false ≡ alikeTo w xs (typeRow ls (rowAt ws k))
   unfolding rowAt
-  row-other g = rw (← entry-cell ws n k 0 0 v h p, ← q, ne-eqb w m (λ e. g (sym e)))
+  row-other g = rw (← row-cell ws n k 0 0 v h p, ← q, ne-eqb w m (λ e. g (sym e)))
 
-  pub row-same : (a b : ℕ) (r : Bool) → m ≡ w → a ≡ entryAt ws 0 n k 1 0 → b ≡ entryAt ws 0 n k 2 0 → r ≡ same xs (run ls a b) → r ≡ alikeTo w xs (typeRow ls (rowAt ws k))
+  pub row-same : (a b : ℕ) (r : Bool) → m ≡ w → a ≡ cell ws 0 n k 1 0 → b ≡ cell ws 0 n k 2 0 → r ≡ same xs (run ls a b) → r ≡ alikeTo w xs (typeRow ls (rowAt ws k))
   unfolding rowAt numbers
   row-same a b r g s t u =
-      rw (← entry-cell ws n k 0 0 v h p, ← q, eq-eqb w m (sym g), ← entry-cell ws n k 1 0 a h s, ← entry-cell ws n k 2 0 b h t) u
+      rw (← row-cell ws n k 0 0 v h p, ← q, eq-eqb w m (sym g), ← row-cell ws n k 1 0 a h s, ← row-cell ws n k 2 0 b h t) u
 
-pub row-ends : (ws : List ℕ) (c : Counts) (k a b : ℕ) → Held ws c → k < c .types → a ≡ entryAt ws 0 (c .types) k 1 0 → b ≡ entryAt ws 0 (c .types) k 2 0 → a + b ≤ c .used
+pub row-ends : (ws : List ℕ) (c : Counts) (k a b : ℕ) → Held ws c → k < c .types → a ≡ cell ws 0 (c .types) k 1 0 → b ≡ cell ws 0 (c .types) k 2 0 → a + b ≤ c .used
 row-ends ws c k a b held h s t =
-    rw (entry-cell ws (c .types) k 1 0 a h s, entry-cell ws (c .types) k 2 0 b h t) (rw zero-add at (held .types .ends k h))
+    rw (row-cell ws (c .types) k 1 0 a h s, row-cell ws (c .types) k 2 0 b h t) (rw zero-add at (held .types .ends k h))
 
 module _ (f : ℕ → ℕ) (w : ℕ) (xs : List ℕ) where
-  pub plain-weighs : (w ≡ 5 → ⊥) → (w ≡ 6 → ⊥) → (w ≡ 7 → ⊥) → some 1 ≡ capped type-weight-limit (weight-by f (typeWord w) xs)
+  pub plain-weighs : (w ≡ 5 → ⊥) → (w ≡ 6 → ⊥) → (w ≡ 7 → ⊥) → some 1 ≡ capped type-weight-limit (weight-by f (type-word-by w) xs)
   plain-weighs a b c = rw (plain-weight f w xs a b c) (cap-in type-weight-limit 1 (lit≤ tt))
 
   pub unit-sizes : (w ≡ 1 → ⊥) → (w ≡ 2 → ⊥) → (w ≡ 3 → ⊥) → (w ≡ 4 → ⊥) → (w ≡ 5 → ⊥) → (w ≡ 6 → ⊥) → (w ≡ 7 → ⊥) → (w ≡ 8 → ⊥)
-      → some 0 ≡ capped type-size-limit (type-size-by f (typeWord w) xs)
+      → some 0 ≡ capped type-size-limit (type-size-by f (type-word-by w) xs)
   unit-sizes a b c d e g h i = rw (unit-size f w xs a b c d e g h i) (cap-in type-size-limit 0 (lit≤ tt))

@@ -8,11 +8,12 @@ use Prim.Native.Nat.{ℕ, zero, suc, _+_, _-_, _*_, _≤_, _<_}
 use native.Mathlib.Omega.{arith}
 use native.Mathlib.Nat.{add-zero, zero-add}
 use lib.ListN.{length, getD, set}
-use Rattle.fields.specs.Tab.{tab, pick, run}
+use Rattle.tables.specs.Tables.{tab, pick, run}
 use Rattle.fields.specs.Fields.{numbers-of, onto, fields-from, listedOf, Listing, Fewer, Kept}
 use Rattle.fields.specs.declared.Listed.{Listed}
 use Rattle.fields.specs.declared.Listed.the-variants.{Numbers, Broken}
-use Rattle.fields.proofs.Tabs.{tab-same, length-tab, getD-tab, run-kept}
+use Rattle.tables.proofs.Laws.{length-run, arg-in}
+use Rattle.fields.proofs.Tabs.{tab-same, run-kept}
 use Rattle.spec.specs.Forms.{Arg, Line}
 use Rattle.ticket.specs.Classes.{headOf, classAt, argAt, counted, formBy, argsOf, lineFrom, formedOf, FormAt}
 use Rattle.ticket.specs.declared.LineKind.{LineKind}
@@ -25,14 +26,6 @@ unfolding run tab
 run-add ls a zero n = rw (zero-add, add-zero)
 run-add ls a (suc m) n = let e : suc m + n ≡ suc (m + n) = omega arith in let g : suc a + m ≡ a + suc m = omega arith in rw (e, ← g) (ap (λ t. getD ls a 0 ∷ t) (run-add ls (suc a) m n))
 
-pub length-run : (ls : List ℕ) (a n : ℕ) → length (run ls a n) ≡ n
-unfolding run
-length-run ls a n = length-tab (λ i. getD ls i 0) a n
-
-pub getD-run : (ls : List ℕ) (a n i : ℕ) → i < n → getD (run ls a n) i 0 ≡ getD ls (a + i) 0
-unfolding run
-getD-run ls a n i h = getD-tab (λ i. getD ls i 0) 0 a n i h
-
 -- a form's line, from its numbers as a list
 lined : (k : LineKind) (w c : ℕ) (ls : List ℕ) (used n : ℕ)
     → formBy k w c (some (run ls used n)) ≡ pick (counted c n) (some (lineFrom (record { kind = k; word = w; count = n }) ls used)) none
@@ -41,7 +34,7 @@ lined k w c ls used n =
     rw (
       length-run ls used n,
       tab-same (argAt (classAt k w) (λ i. getD (run ls used n) i 0)) (argAt (classAt k w) (λ i. getD ls (used + i) 0)) 0 n
-          (λ i l u. ap (λ (x : ℕ). record { class = classAt k w i; value = x }) (getD-run ls used n i (omega arith))),
+          (λ i l u. ap (λ (x : ℕ). record { class = classAt k w i; value = x }) (arg-in ls used n i (omega arith))),
     )
 
 kept-less : (m n : ℕ) (u t : List ℕ) → n ≤ m → Kept m u t → Kept n u t

@@ -13,7 +13,7 @@ use lib.ListN.{length, getD, take, drop, length-drop, length-take, drop-of-lengt
 use lib.Seq.{length-take-le, drop-cons}
 use borrow.Author.Tests.{le-leb, lt-leb, eq-eqb, ne-eqb, lt-ltb}
 use Rattle.spec.specs.Text.{split, line-feed}
-use Rattle.fields.specs.Tab.{tab, pick}
+use Rattle.tables.specs.Tables.{tab, pick, places-from, cell, tables-of}
 use Rattle.fields.specs.Fields.{Found}
 use Rattle.fields.proofs.Marks.{split-from, split-some}
 use Rattle.spec.specs.Limits.{text-limit}
@@ -42,7 +42,7 @@ use Rattle.spec.specs.Read.{
 use Rattle.ticket.specs.Rows.{
   Row,
   rowAt,
-  cell,
+  word-at,
   section,
   placeRow,
   nodeRow,
@@ -50,16 +50,14 @@ use Rattle.ticket.specs.Rows.{
   tablesOf,
   usedOf,
   readingOf,
-  entryAt,
   Few,
   Inside,
   Held,
-  places-from,
   nodes-from,
 }
 use Rattle.ticket.specs.Judged.{stepOf, StepAt, LineGoes}
-use Rattle.ticket.specs.Answers.{leastOf, joined, with-left, least-rows, but-last, left-of, answerOf, Answered, advanceOf, Ahead, Advance, Begun}
-use Rattle.ticket.specs.declared.Counts.{Counts}
+use Rattle.ticket.specs.Answers.{leastOf, joined, with-left, least-rows, but-last, left-of, answerOf, Answered, advanceOf, Ahead, Advance, behindOf, Begun}
+use Rattle.tables.specs.declared.Counts.{Counts}
 use Rattle.ticket.specs.declared.Least.{Least}
 use Rattle.ticket.specs.declared.Least.the-variants.{Line, Nothing}
 use Rattle.ticket.specs.declared.Advanced.{Advanced}
@@ -69,6 +67,7 @@ use Rattle.ticket.specs.declared.ReadAnswer.the-variants.{Refused, Accep
 use Rattle.ticket.specs.declared.Stepped.{Stepped}
 use Rattle.ticket.specs.declared.Stepped.the-variants.{Went, Turned}
 use Rattle.ticket.proofs.RowLaws.{length-section}
+use Rattle.ticket.proofs.TableLaws.{tables-are}
 
 -- ---------------------------------------------------------------- lines left over
 
@@ -92,9 +91,9 @@ onto-both (x ∷ xs) ys o = rw (onto-both xs ys o)
 
 left-out : (ws : List ℕ) (q : ℕ) (o p : Option ℕ) → o ≡ p → pick (marked (rowAt ws q)) o (joined ((rowAt ws q) .third) o) ≡ with-left ws q p
 unfolding with-left rowAt
-left-out ws q o p e = by (eqb (cell ws q 5) 0)
+left-out ws q o p e = by (eqb (word-at ws q 5) 0)
   where
-    by : (t : Bool) → pick (not t) o (joined (cell ws q 3) o) ≡ pick t (joined (cell ws q 3) p) p
+    by : (t : Bool) → pick (not t) o (joined (word-at ws q 3) o) ≡ pick t (joined (word-at ws q 3) p) p
     by true = rw e
     by false = e
 
@@ -142,9 +141,9 @@ lines-suc : (ws ls : List ℕ) (c : Counts) → refused 2 (c .lines + 1) ≡ ref
 unfolding readingOf
 lines-suc ws ls c = rw add-one
 
-tables-in : (ws ls : List ℕ) (c : Counts) → accepted (tablesOf ws ls c) ≡ accepted ((readingOf ws ls c) .tables)
+tables-in : (ws ls : List ℕ) (c : Counts) → accepted (tables-of ws (drop 5376 ws) ls c) ≡ accepted ((readingOf ws ls c) .tables)
 unfolding readingOf
-tables-in ws ls c = refl
+tables-in ws ls c = rw (tables-are ws ls c)
 
 module _ (ws ls : List ℕ) (c : Counts) (r : Least) (p : leastOf r ≡ left-of ws c) where
   pub end-left : (n : ℕ) → r ≡ Line n → Answered (at-end (readingOf ws ls c)) ws ls (Refused 7 n)
@@ -161,16 +160,16 @@ module _ (ws ls : List ℕ) (c : Counts) (r : Least) (p : leastOf r ≡ left-of 
 
 -- ---------------------------------------------------------------- rows left over, one by one
 
-pub row-marked : (ws : List ℕ) (base n k v : ℕ) (o : Option ℕ) → k < n → v ≡ entryAt ws base n k 5 0 → (v ≡ 0 → ⊥) → o ≡ with-left ws (base + k) o
-unfolding with-left entryAt
+pub row-marked : (ws : List ℕ) (base n k v : ℕ) (o : Option ℕ) → k < n → v ≡ cell ws base n k 5 0 → (v ≡ 0 → ⊥) → o ≡ with-left ws (base + k) o
+unfolding with-left cell word-at
 row-marked ws base n k v o h e g =
-    let z : v ≡ cell ws (base + k) 5 = e ∙ rw (lt-ltb k n h) in rw (← z, ne-eqb v 0 g)
+    let z : v ≡ word-at ws (base + k) 5 = e ∙ rw (lt-ltb k n h) in rw (← z, ne-eqb v 0 g)
 
-pub row-left : (ws : List ℕ) (base n k v x : ℕ) (o p : Option ℕ) → k < n → v ≡ entryAt ws base n k 5 0 → v ≡ 0 → x ≡ entryAt ws base n k 3 0 → p ≡ joined x o → p ≡ with-left ws (base + k) o
-unfolding with-left entryAt
+pub row-left : (ws : List ℕ) (base n k v x : ℕ) (o p : Option ℕ) → k < n → v ≡ cell ws base n k 5 0 → v ≡ 0 → x ≡ cell ws base n k 3 0 → p ≡ joined x o → p ≡ with-left ws (base + k) o
+unfolding with-left cell word-at
 row-left ws base n k v x o p h e g e′ q =
-    let z : v ≡ cell ws (base + k) 5 = e ∙ rw (lt-ltb k n h) in
-    let y : x ≡ cell ws (base + k) 3 = e′ ∙ rw (lt-ltb k n h) in
+    let z : v ≡ word-at ws (base + k) 5 = e ∙ rw (lt-ltb k n h) in
+    let y : x ≡ word-at ws (base + k) 3 = e′ ∙ rw (lt-ltb k n h) in
     rw (← z, eq-eqb v 0 g, ← y) q
 
 pub rows-start : (ws : List ℕ) (base n : ℕ) (o : Option ℕ) → o ≡ least-rows ws base n (n - n) o
@@ -195,6 +194,12 @@ joined-other x y l e h = let z : min x y ≡ y = omega arith in rw (e, z)
 
 pub joined-none : (x : ℕ) (l : Least) → l ≡ Nothing → some x ≡ joined x (leastOf l)
 joined-none x l e = rw e
+
+pub behind-line : (r : Advanced) (k : Counts) (p at : ℕ) → r ≡ Behind k p → p ≡ behindOf r at
+behind-line r k p at e = rw e
+
+pub behind-none : (r : Advanced) (n at : ℕ) → r ≡ Stopped n → at ≡ behindOf r at
+behind-none r n at e = rw e
 
 pub last-zero : (n : ℕ) → n ≡ 0 → 0 ≡ but-last n
 last-zero n e = rw e

@@ -10,21 +10,20 @@ use native.Mathlib.Nat.{add-zero, zero-add}
 use lib.Dec.{eqb, ltb, lit<}
 use lib.ListN.{length, getD, set, length-set, List·getD-eq-default}
 use lib.Seq.{getD-set-same, getD-set-other, set-out}
-use borrow.Author.Tests.{eqb-false, lt-ltb, le-ltb, eq-eqb, ne-eqb}
-use Rattle.fields.specs.Tab.{tab, pick, run}
-use Rattle.fields.proofs.Tabs.{tab-more, tab-same, length-tab, getD-tab}
-use Rattle.spec.specs.Ticket.{arg}
-use Rattle.ticket.proofs.Numbered.{getD-run, length-run}
-use Rattle.ticket.specs.Rows.{cell, Row, rowAt, section, marked, entryAt, RowPut, MarkAt}
+use borrow.Author.Tests.{eqb-false, lt-ltb, eq-eqb, ne-eqb}
+use Rattle.tables.specs.Tables.{tab, pick, cell}
+use Rattle.tables.proofs.Laws.{length-tab, getD-tab-in}
+use Rattle.fields.proofs.Tabs.{tab-more, tab-same}
+use Rattle.ticket.specs.Rows.{word-at, Row, rowAt, section, marked, RowPut, MarkAt}
 
 -- a word stored
 pub record Stored (u t : List ℕ) (r j v : ℕ) : Type 0 where
-  pub here : cell t r j ≡ v
-  pub others : (q i : ℕ) → i < 6 → (q ≡ r → i ≡ j → ⊥) → cell t q i ≡ cell u q i
+  pub here : word-at t r j ≡ v
+  pub others : (q i : ℕ) → i < 6 → (q ≡ r → i ≡ j → ⊥) → word-at t q i ≡ word-at u q i
   pub long : length t ≡ length u
 
 stored : (u : List ℕ) (r j v : ℕ) → j < 6 → r * 6 + j < length u → Stored u (set u (r * 6 + j) v) r j v
-unfolding cell
+unfolding word-at
 stored u r j v h l =
     record {
       here = getD-set-same u (r * 6 + j) v 0 l;
@@ -37,40 +36,40 @@ stored u r j v h l =
 
 module _ (u u1 u2 u3 u4 u5 u6 : List ℕ) (r a b c d e f : ℕ) (s0 : Stored u u1 r 0 a) (s1 : Stored u1 u2 r 1 b) (s2 : Stored u2 u3 r 2 c)
     (s3 : Stored u3 u4 r 3 d) (s4 : Stored u4 u5 r 4 e) (s5 : Stored u5 u6 r 5 f) where
-  h0 : cell u6 r 0 ≡ a
+  h0 : word-at u6 r 0 ≡ a
   h0 = s5 .others r 0 (lit< tt) (λ p q. eqb-false 0 5 refl q) ∙ s4 .others r 0 (lit< tt) (λ p q. eqb-false 0 4 refl q) ∙ s3 .others r 0 (lit< tt) (λ p q. eqb-false 0 3 refl q) ∙ s2 .others r 0 (lit< tt) (λ p q. eqb-false 0 2 refl q) ∙ s1 .others r 0 (lit< tt) (λ p q. eqb-false 0 1 refl q) ∙ s0 .here
 
-  h1 : cell u6 r 1 ≡ b
+  h1 : word-at u6 r 1 ≡ b
   h1 = s5 .others r 1 (lit< tt) (λ p q. eqb-false 1 5 refl q) ∙ s4 .others r 1 (lit< tt) (λ p q. eqb-false 1 4 refl q) ∙ s3 .others r 1 (lit< tt) (λ p q. eqb-false 1 3 refl q) ∙ s2 .others r 1 (lit< tt) (λ p q. eqb-false 1 2 refl q) ∙ s1 .here
 
-  h2 : cell u6 r 2 ≡ c
+  h2 : word-at u6 r 2 ≡ c
   h2 = s5 .others r 2 (lit< tt) (λ p q. eqb-false 2 5 refl q) ∙ s4 .others r 2 (lit< tt) (λ p q. eqb-false 2 4 refl q) ∙ s3 .others r 2 (lit< tt) (λ p q. eqb-false 2 3 refl q) ∙ s2 .here
 
-  h3 : cell u6 r 3 ≡ d
+  h3 : word-at u6 r 3 ≡ d
   h3 = s5 .others r 3 (lit< tt) (λ p q. eqb-false 3 5 refl q) ∙ s4 .others r 3 (lit< tt) (λ p q. eqb-false 3 4 refl q) ∙ s3 .here
 
-  h4 : cell u6 r 4 ≡ e
+  h4 : word-at u6 r 4 ≡ e
   h4 = s5 .others r 4 (lit< tt) (λ p q. eqb-false 4 5 refl q) ∙ s4 .here
 
-  h5 : cell u6 r 5 ≡ f
+  h5 : word-at u6 r 5 ≡ f
   h5 = s5 .here
 
-  o0 : (q : ℕ) → (q ≡ r → ⊥) → cell u6 q 0 ≡ cell u q 0
+  o0 : (q : ℕ) → (q ≡ r → ⊥) → word-at u6 q 0 ≡ word-at u q 0
   o0 q h = s5 .others q 0 (lit< tt) (λ p z. h p) ∙ s4 .others q 0 (lit< tt) (λ p z. h p) ∙ s3 .others q 0 (lit< tt) (λ p z. h p) ∙ s2 .others q 0 (lit< tt) (λ p z. h p) ∙ s1 .others q 0 (lit< tt) (λ p z. h p) ∙ s0 .others q 0 (lit< tt) (λ p z. h p)
 
-  o1 : (q : ℕ) → (q ≡ r → ⊥) → cell u6 q 1 ≡ cell u q 1
+  o1 : (q : ℕ) → (q ≡ r → ⊥) → word-at u6 q 1 ≡ word-at u q 1
   o1 q h = s5 .others q 1 (lit< tt) (λ p z. h p) ∙ s4 .others q 1 (lit< tt) (λ p z. h p) ∙ s3 .others q 1 (lit< tt) (λ p z. h p) ∙ s2 .others q 1 (lit< tt) (λ p z. h p) ∙ s1 .others q 1 (lit< tt) (λ p z. h p) ∙ s0 .others q 1 (lit< tt) (λ p z. h p)
 
-  o2 : (q : ℕ) → (q ≡ r → ⊥) → cell u6 q 2 ≡ cell u q 2
+  o2 : (q : ℕ) → (q ≡ r → ⊥) → word-at u6 q 2 ≡ word-at u q 2
   o2 q h = s5 .others q 2 (lit< tt) (λ p z. h p) ∙ s4 .others q 2 (lit< tt) (λ p z. h p) ∙ s3 .others q 2 (lit< tt) (λ p z. h p) ∙ s2 .others q 2 (lit< tt) (λ p z. h p) ∙ s1 .others q 2 (lit< tt) (λ p z. h p) ∙ s0 .others q 2 (lit< tt) (λ p z. h p)
 
-  o3 : (q : ℕ) → (q ≡ r → ⊥) → cell u6 q 3 ≡ cell u q 3
+  o3 : (q : ℕ) → (q ≡ r → ⊥) → word-at u6 q 3 ≡ word-at u q 3
   o3 q h = s5 .others q 3 (lit< tt) (λ p z. h p) ∙ s4 .others q 3 (lit< tt) (λ p z. h p) ∙ s3 .others q 3 (lit< tt) (λ p z. h p) ∙ s2 .others q 3 (lit< tt) (λ p z. h p) ∙ s1 .others q 3 (lit< tt) (λ p z. h p) ∙ s0 .others q 3 (lit< tt) (λ p z. h p)
 
-  o4 : (q : ℕ) → (q ≡ r → ⊥) → cell u6 q 4 ≡ cell u q 4
+  o4 : (q : ℕ) → (q ≡ r → ⊥) → word-at u6 q 4 ≡ word-at u q 4
   o4 q h = s5 .others q 4 (lit< tt) (λ p z. h p) ∙ s4 .others q 4 (lit< tt) (λ p z. h p) ∙ s3 .others q 4 (lit< tt) (λ p z. h p) ∙ s2 .others q 4 (lit< tt) (λ p z. h p) ∙ s1 .others q 4 (lit< tt) (λ p z. h p) ∙ s0 .others q 4 (lit< tt) (λ p z. h p)
 
-  o5 : (q : ℕ) → (q ≡ r → ⊥) → cell u6 q 5 ≡ cell u q 5
+  o5 : (q : ℕ) → (q ≡ r → ⊥) → word-at u6 q 5 ≡ word-at u q 5
   o5 q h = s5 .others q 5 (lit< tt) (λ p z. h p) ∙ s4 .others q 5 (lit< tt) (λ p z. h p) ∙ s3 .others q 5 (lit< tt) (λ p z. h p) ∙ s2 .others q 5 (lit< tt) (λ p z. h p) ∙ s1 .others q 5 (lit< tt) (λ p z. h p) ∙ s0 .others q 5 (lit< tt) (λ p z. h p)
 
   six : RowPut u u6 r (record { word = a; start = b; count = c; third = d; fourth = e; fifth = f })
@@ -98,7 +97,7 @@ module _ {A : Type 0} (f : Row → A) where
 
   pub section-at : (ws : List ℕ) (base n k : ℕ) (d : A) → k < n → getD (section f ws base n) k d ≡ f (rowAt ws (base + k))
   unfolding section
-  section-at ws base n k d h = getD-tab (λ k. f (rowAt ws (base + k))) d 0 n k h ∙ rw zero-add
+  section-at ws base n k d h = getD-tab-in (λ k. f (rowAt ws (base + k))) d 0 n k h ∙ rw zero-add
 
   pub section-past : (ws : List ℕ) (base n k : ℕ) (d : A) → n ≤ k → getD (section f ws base n) k d ≡ d
   section-past ws base n k d h = List·getD-eq-default (section f ws base n) d (rw (length-section ws base n) h)
@@ -122,13 +121,10 @@ module _ {A : Type 0} (f : Row → A) where
   pub section-kept : (u t : List ℕ) (base n r : ℕ) (x : Row) → RowPut u t r x → ((k : ℕ) → k < n → base + k ≡ r → ⊥) → section f t base n ≡ section f u base n
   section-kept u t base n r x p h = section-same u t base n (λ k l. ap f (p .others (base + k) (h k l)))
 
-pub entry-in : (ws : List ℕ) (base n k j other : ℕ) → k < n → cell ws (base + k) j ≡ entryAt ws base n k j other
-unfolding entryAt
-entry-in ws base n k j other h = rw (lt-ltb k n h)
-
-pub entry-out : (ws : List ℕ) (base n k j other : ℕ) → n ≤ k → other ≡ entryAt ws base n k j other
-unfolding entryAt
-entry-out ws base n k j other h = rw (le-ltb k n h)
+-- a word of a row that there is, looked up
+pub cell-here : (ws : List ℕ) (base n k j other : ℕ) → k < n → word-at ws (base + k) j ≡ cell ws base n k j other
+unfolding word-at cell
+cell-here ws base n k j other h = rw (lt-ltb k n h)
 
 -- ---------------------------------------------------------------- marks
 
@@ -142,8 +138,8 @@ tab-set f g v j (suc n) (suc k) h e o =
     let s : suc j + k ≡ j + suc k = omega arith in
     rw (o j (λ (q : j ≡ j + suc k). omega arith), tab-set f g v (suc j) n k (omega arith) (rw s e) (λ i q. o i (rw s at q)))
 
-cell-is : (u : List ℕ) (r j v : ℕ) → getD u (r * 6 + j) 0 ≡ v → cell u r j ≡ v
-unfolding cell
+cell-is : (u : List ℕ) (r j v : ℕ) → getD u (r * 6 + j) 0 ≡ v → word-at u r j ≡ v
+unfolding word-at
 cell-is u r j v e = e
 
 module _ (u : List ℕ) (base n k : ℕ) where
@@ -157,7 +153,7 @@ module _ (u : List ℕ) (base n k : ℕ) where
       }
 
   pub mark-was : k < n → (getD u ((base + k) * 6 + 5) 0 ≡ 0 → ⊥) → MarkAt u u base n k false
-  unfolding rowAt cell section
+  unfolding rowAt word-at section
   mark-was h e =
       let was : marked (rowAt u (base + k)) ≡ true = rw (ne-eqb (getD u ((base + k) * 6 + 5) 0) 0 e) in
       record {
@@ -171,7 +167,7 @@ module _ (u : List ℕ) (base n k : ℕ) where
   unfolding rowAt section
   mark-now h l e =
       let s = stored u (base + k) 5 1 (lit< tt) (omega arith) in
-      let z : cell u (base + k) 5 ≡ 0 = cell-is u (base + k) 5 0 e in
+      let z : word-at u (base + k) 5 ≡ 0 = cell-is u (base + k) 5 0 e in
       record {
         answer = sym (section-at marked u base n k false h ∙ rw z);
         marks = tab-set (λ i. marked (rowAt u (base + i))) (λ i. marked (rowAt (set u ((base + k) * 6 + 5) 1) (base + i))) true 0 n k h (rw (zero-add, s .here)) (λ i o. rw (s .others (base + i) 5 (lit< tt) (λ (p : base + i ≡ base + k) q. o (omega arith))));
@@ -188,15 +184,3 @@ module _ (u : List ℕ) (base n k : ℕ) where
       }
 
 pub ruleset marking = (mark-out, mark-was, mark-now)
-
--- ---------------------------------------------------------------- look-ups
-
-pub entry-read : (ws : List ℕ) (base n k j other v : ℕ) → v ≡ getD ws ((base + k) * 6 + j) 0 → k < n → v ≡ entryAt ws base n k j other
-unfolding entryAt cell
-entry-read ws base n k j other v e h = e ∙ rw (lt-ltb k n h)
-
-pub arg-read : (ls : List ℕ) (start n i v : ℕ) → v ≡ getD ls (start + i) 0 → i < n → v ≡ arg (run ls start n) i
-arg-read ls start n i v e h = e ∙ sym (getD-run ls start n i h)
-
-pub arg-past : (ls : List ℕ) (start n i : ℕ) → n ≤ i → 0 ≡ arg (run ls start n) i
-arg-past ls start n i h = sym (List·getD-eq-default (run ls start n) 0 (rw (length-run ls start n) h))

@@ -11,7 +11,7 @@ use native.Mathlib.Nat.{zero-add}
 use lib.Dec.{eqb, leb, ltb}
 use lib.ListN.{length, getD}
 use borrow.Author.Tests.{le-leb, lt-leb, leb-true, leb-false, lt-ltb, le-ltb, ltb-true, ltb-false}
-use Rattle.fields.specs.Tab.{tab, pick, run}
+use Rattle.tables.specs.Tables.{tab, pick, run, storages-from, variables-from, statics-from, places-from, cell, type-word-by}
 use Rattle.fields.specs.Fields.{Kept}
 use Rattle.fields.proofs.Tabs.{run-kept, tab-same}
 use Rattle.spec.specs.Limits.{size-sum-limit, weight-sum-limit, type-size-limit, type-weight-limit}
@@ -55,11 +55,11 @@ use Rattle.spec.specs.Read.{
   right-start,
   new-used,
 }
-use Rattle.ticket.specs.Classes.{headOf, argsOf, lineFrom, typeWord, FormAt, formedOf}
+use Rattle.ticket.specs.Classes.{headOf, argsOf, lineFrom, FormAt, formedOf}
 use Rattle.ticket.specs.Rows.{
   Row,
   rowAt,
-  cell,
+  word-at,
   section,
   typeRow,
   storageRow,
@@ -70,14 +70,9 @@ use Rattle.ticket.specs.Rows.{
   tablesOf,
   usedOf,
   readingOf,
-  entryAt,
   Few,
   Inside,
   Held,
-  storages-from,
-  variables-from,
-  statics-from,
-  places-from,
   nodes-from,
 }
 use Rattle.ticket.specs.Steps.{verdictOf, fewOf, earlierIn, earlierArg, depthIn, deepestIn, early-tests, Measure, measured}
@@ -105,7 +100,7 @@ use Rattle.ticket.specs.Judged.{
 }
 use Rattle.ticket.specs.declared.LineKind.{LineKind}
 use Rattle.ticket.specs.declared.LineKind.the-variants.{Functions, Types, Storages, Variables, Statics, Places, Nodes}
-use Rattle.ticket.specs.declared.Counts.{Counts}
+use Rattle.tables.specs.declared.Counts.{Counts}
 use Rattle.ticket.specs.declared.Form.{Form}
 use Rattle.ticket.specs.declared.Formed.{Formed}
 use Rattle.ticket.specs.declared.Formed.the-variants.{Line as Lined, Unformed}
@@ -122,20 +117,20 @@ module _ (ws ls : List ℕ) (c : Counts) where
   T : Tables
   T = tablesOf ws ls c
 
-  type-entry : {A : Type 0} (f : Row → A) (d : A) (g : A → ℕ) (base n k j other : ℕ) → ((q : ℕ) → g (f (rowAt ws q)) ≡ cell ws q j) → g d ≡ other
-      → g (getD (section f ws base n) k d) ≡ entryAt ws base n k j other
-  unfolding entryAt
+  type-entry : {A : Type 0} (f : Row → A) (d : A) (g : A → ℕ) (base n k j other : ℕ) → ((q : ℕ) → g (f (rowAt ws q)) ≡ word-at ws q j) → g d ≡ other
+      → g (getD (section f ws base n) k d) ≡ cell ws base n k j other
+  unfolding cell word-at
   type-entry f d g base n k j other h e = by (ltb k n) refl
     where
-      by : (t : Bool) → ltb k n ≡ t → g (getD (section f ws base n) k d) ≡ pick t (cell ws (base + k) j) other
+      by : (t : Bool) → ltb k n ≡ t → g (getD (section f ws base n) k d) ≡ pick t (word-at ws (base + k) j) other
       by true q = rw (section-at f ws base n k d (ltb-true k n q)) (h (base + k))
       by false q = rw (section-past f ws base n k d (ltb-false k n q)) e
 
-  pub size-entry : (x : ℕ) → (typeAt (tablesOf ws ls c) x) .size ≡ entryAt ws 0 (c .types) x 3 0
+  pub size-entry : (x : ℕ) → (typeAt (tablesOf ws ls c) x) .size ≡ cell ws 0 (c .types) x 3 0
   unfolding tablesOf rowAt
   size-entry x = type-entry (typeRow ls) noType (λ t. t .size) 0 (c .types) x 3 0 (λ q. refl) refl
 
-  pub weight-entry : (x : ℕ) → (typeAt (tablesOf ws ls c) x) .weight ≡ entryAt ws 0 (c .types) x 4 1
+  pub weight-entry : (x : ℕ) → (typeAt (tablesOf ws ls c) x) .weight ≡ cell ws 0 (c .types) x 4 1
   unfolding tablesOf rowAt
   weight-entry x = type-entry (typeRow ls) noType (λ t. t .weight) 0 (c .types) x 4 1 (λ q. refl) refl
 
@@ -178,7 +173,7 @@ module _ (ws ls : List ℕ) (c : Counts) where
   all-entry [] = refl
   all-entry (a ∷ xa) = rw (earlier-entry (a .class) (a .value), all-entry xa)
 
-  start-entry : (n w : ℕ) → right-start n (typeWord w) ≡ startIn n w
+  start-entry : (n w : ℕ) → right-start n (type-word-by w) ≡ startIn n w
   start-entry zero w = refl
   start-entry (suc zero) w = refl
   start-entry (suc (suc n)) w = refl
@@ -281,7 +276,7 @@ size-test a b k = by (leb a type-size-limit && leb b type-weight-limit)
 
 size-for : List ℕ → List ℕ → Counts → LineKind → ℕ → ℕ → ℕ
 size-for ws ls c Functions w n = 0
-size-for ws ls c Types w n = type-size-by (λ t. entryAt ws 0 (c .types) t 3 0) (typeWord w) (run ls (c .used) n)
+size-for ws ls c Types w n = type-size-by (λ t. cell ws 0 (c .types) t 3 0) (type-word-by w) (run ls (c .used) n)
 size-for ws ls c Storages w n = 0
 size-for ws ls c Variables w n = 0
 size-for ws ls c Statics w n = 0
@@ -290,7 +285,7 @@ size-for ws ls c Nodes w n = 0
 
 weight-for : List ℕ → List ℕ → Counts → LineKind → ℕ → ℕ → ℕ
 weight-for ws ls c Functions w n = 0
-weight-for ws ls c Types w n = weight-by (λ t. entryAt ws 0 (c .types) t 4 1) (typeWord w) (run ls (c .used) n)
+weight-for ws ls c Types w n = weight-by (λ t. cell ws 0 (c .types) t 4 1) (type-word-by w) (run ls (c .used) n)
 weight-for ws ls c Storages w n = 0
 weight-for ws ls c Variables w n = 0
 weight-for ws ls c Statics w n = 0
@@ -298,11 +293,11 @@ weight-for ws ls c Places w n = 0
 weight-for ws ls c Nodes w n = 0
 
 module _ (ws ls : List ℕ) (c : Counts) (w n : ℕ) where
-  size-is : size-of (tablesOf ws ls c) (typeWord w) (run ls (c .used) n) ≡ type-size-by (λ t. entryAt ws 0 (c .types) t 3 0) (typeWord w) (run ls (c .used) n)
-  size-is = ap (λ (g : ℕ → ℕ). type-size-by g (typeWord w) (run ls (c .used) n)) (fun-ext (size-entry ws ls c))
+  size-is : size-of (tablesOf ws ls c) (type-word-by w) (run ls (c .used) n) ≡ type-size-by (λ t. cell ws 0 (c .types) t 3 0) (type-word-by w) (run ls (c .used) n)
+  size-is = ap (λ (g : ℕ → ℕ). type-size-by g (type-word-by w) (run ls (c .used) n)) (fun-ext (size-entry ws ls c))
 
-  weight-is : weight-of (tablesOf ws ls c) (typeWord w) (run ls (c .used) n) ≡ weight-by (λ t. entryAt ws 0 (c .types) t 4 1) (typeWord w) (run ls (c .used) n)
-  weight-is = ap (λ (g : ℕ → ℕ). weight-by g (typeWord w) (run ls (c .used) n)) (fun-ext (weight-entry ws ls c))
+  weight-is : weight-of (tablesOf ws ls c) (type-word-by w) (run ls (c .used) n) ≡ weight-by (λ t. cell ws 0 (c .types) t 4 1) (type-word-by w) (run ls (c .used) n)
+  weight-is = ap (λ (g : ℕ → ℕ). weight-by g (type-word-by w) (run ls (c .used) n)) (fun-ext (weight-entry ws ls c))
 
   sized-test : (k : LineKind) (X : ℕ → ℕ → Step)
       → with-size (sizedIn ws ls c k w n) X ≡ with-test (small-enough (tablesOf ws ls c) (headOf k w) (run ls (c .used) n)) 6 (X (size-for ws ls c k w n) (weight-for ws ls c k w n))
@@ -397,7 +392,7 @@ module _ (ws ls : List ℕ) (c : Counts) (k : LineKind) (w n : ℕ) where
 module _ (ws u t : List ℕ) (c : Counts) (h : Held ws c) (k : Kept (c .used) u t) where
   kept-row : (base n : ℕ) → Inside ws (c .used) base n → (i : ℕ) → i < n → numbers t (rowAt ws (base + i)) ≡ numbers u (rowAt ws (base + i))
   unfolding numbers rowAt
-  kept-row base n s i l = run-kept u t (c .used) (cell ws (base + i) 1) (cell ws (base + i) 2) k (s .ends i l)
+  kept-row base n s i l = run-kept u t (c .used) (word-at ws (base + i) 1) (word-at ws (base + i) 2) k (s .ends i l)
 
   kept-section : {A : Type 0} (f : List ℕ → Row → A) → ((r : Row) → numbers t r ≡ numbers u r → f t r ≡ f u r) → (base n : ℕ) → Inside ws (c .used) base n
       → section (f t) ws base n ≡ section (f u) ws base n

@@ -7,10 +7,10 @@ use mathlib.Core.Option.{Option, none, some}
 use lib.Dec.{eqb}
 use lib.ListN.{length, drop}
 use Rattle.spec.specs.Text.{split, line-feed}
-use Rattle.fields.specs.Tab.{pick}
+use Rattle.tables.specs.Tables.{pick, places-from, tables-of}
 use Rattle.spec.specs.Read.{Reading, Read, refused, accepted, read-lines, start}
-use Rattle.ticket.specs.Rows.{cell, tablesOf, readingOf, Held, places-from, nodes-from}
-use Rattle.ticket.specs.declared.Counts.{Counts}
+use Rattle.ticket.specs.Rows.{word-at, readingOf, Held, nodes-from, rows-length}
+use Rattle.tables.specs.declared.Counts.{Counts}
 use Rattle.ticket.specs.declared.Least.{Least}
 use Rattle.ticket.specs.declared.Least.the-variants.{Line, Nothing}
 use Rattle.ticket.specs.declared.Advanced.{Advanced}
@@ -28,7 +28,7 @@ joined x (some y) = some (min x y)
 
 -- with the line of row q, where nothing refers to it
 unfoldable pub with-left : List ℕ → ℕ → Option ℕ → Option ℕ
-with-left ws q o = pick (eqb (cell ws q 5) 0) (joined (cell ws q 3) o) o
+with-left ws q o = pick (eqb (word-at ws q 5) 0) (joined (word-at ws q 3) o) o
 
 -- with those of n rows from row i of `base` on
 unfoldable pub least-rows : List ℕ → ℕ → ℕ → ℕ → Option ℕ → Option ℕ
@@ -43,9 +43,10 @@ but-last (suc n) = n
 abbrev pub left-of : List ℕ → Counts → Option ℕ
 left-of ws c = least-rows ws places-from 0 (c .places) (least-rows ws nodes-from 0 (but-last (c .nodes)) none)
 
+-- the nodes' rows begin at word 5376
 unfoldable pub answerOf : List ℕ → List ℕ → ReadAnswer → Read
 answerOf ws ls (Refused n l) = refused n l
-answerOf ws ls (Accepted c) = accepted (tablesOf ws ls c)
+answerOf ws ls (Accepted c) = accepted (tables-of ws (drop 5376 ws) ls c)
 
 unfoldable pub advanceOf : List ℕ → List ℕ → List ℕ → ℕ → Advanced → Read
 advanceOf s ws ls line (Behind c p) = read-lines (split line-feed (drop p s)) (readingOf ws ls c)
@@ -59,6 +60,15 @@ Ahead s t c at (Stopped n) = Unit {0}
 pub record Advance (s u v t ls : List ℕ) (c : Counts) (at : ℕ) (r : Advanced) : Type 0 where
   pub answer : advanceOf s t ls (c .lines + 1) r ≡ read-lines (split line-feed (drop at s)) (readingOf u v c)
   pub ahead : Ahead s t c at r
+
+-- the position behind a line, or that before it where reading stopped
+abbrev pub behindOf : Advanced → ℕ → ℕ
+behindOf (Behind c p) at = p
+behindOf (Stopped n) at = at
+
+-- what reading a line at a position asks
+abbrev pub Ready : List ℕ → List ℕ → List ℕ → Counts → ℕ → Type 0
+Ready s ws ls c at = Held ws c × (rows-length ≤ length ws) × (length s ≤ length ls * 2) × (c .used * 2 ≤ at) × (c .lines ≤ at) × (at < length s) × (length s ≤ 65536)
 
 -- no line read: the state at the start, whatever the words are
 pub record Begun (c : Counts) : Type 0 where

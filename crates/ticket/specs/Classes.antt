@@ -7,7 +7,7 @@ use mathlib.Core.List.{List, [], _∷_}
 use mathlib.Core.Option.{Option, none, some}
 use lib.Dec.{eqb, leb}
 use lib.ListN.{length, getD}
-use Rattle.fields.specs.Tab.{tab, pick}
+use Rattle.tables.specs.Tables.{tab, pick, type-word-by, place-word-by, node-word-by}
 use Rattle.fields.specs.Fields.{Kept}
 use Rattle.spec.specs.Limits.{greatest-16, greatest-32, all-regions}
 use Rattle.spec.specs.Ticket.{TypeWord, tUnit, PlaceWord, pVariable, NodeWord, nNull}
@@ -77,23 +77,14 @@ placeRule w = getD place-rules w (rule "variable" pVariable [])
 unfoldable pub nodeRule : ℕ → Rule NodeWord
 nodeRule w = getD node-rules w (rule "null" nNull [])
 
-abbrev pub typeWord : ℕ → TypeWord
-typeWord w = (typeRule w) .make
-
-abbrev pub placeWord : ℕ → PlaceWord
-placeWord w = (placeRule w) .make
-
-abbrev pub nodeWord : ℕ → NodeWord
-nodeWord w = (nodeRule w) .make
-
 abbrev pub headOf : LineKind → ℕ → Head
 headOf Functions w = f-line
-headOf Types w = t-line (typeWord w)
+headOf Types w = t-line (type-word-by w)
 headOf Storages w = s-line
 headOf Variables w = v-line
 headOf Statics w = g-line
-headOf Places w = p-line (placeWord w)
-headOf Nodes w = n-line (nodeWord w)
+headOf Places w = p-line (place-word-by w)
+headOf Nodes w = n-line (node-word-by w)
 
 abbrev pub fieldsOf : LineKind → ℕ → List Field
 fieldsOf Functions w = function-fields

@@ -2,21 +2,21 @@
 use Prim.Native.Nat.{ℕ, suc, _+_, _*_, _≤_, _<_}
 use mathlib.Core.Path.{_≡_}
 use mathlib.Core.List.{List, [], _∷_, _++_}
-use Rattle.fields.specs.Tab.{run}
+use Rattle.tables.specs.Tables.{run, type-word-by, place-word-by, node-word-by}
 use Rattle.spec.specs.Ticket.{TypeLine, PlaceLine, NodeLine, Tables, arg}
 use Rattle.spec.specs.Read.{Reading, rank, storage-line, placed-line, behind-type, new-used}
-use Rattle.ticket.specs.Classes.{typeWord, placeWord, nodeWord, headOf}
+use Rattle.ticket.specs.Classes.{headOf}
 use Rattle.ticket.specs.Rows.{readingOf, Held}
 use Rattle.ticket.specs.declared.LineKind.{LineKind}
 use Rattle.ticket.specs.declared.LineKind.the-variants.{Functions, Types, Storages, Variables, Statics, Places, Nodes}
-use Rattle.ticket.specs.declared.Counts.{Counts}
+use Rattle.tables.specs.declared.Counts.{Counts}
 use Rattle.ticket.specs.declared.Extent.{Extent}
 
 abbrev pub grown-tables : Tables → LineKind → ℕ → List ℕ → ℕ → Extent → Tables
 grown-tables T Functions w xs n e =
     record { function = arg xs 0; next = arg xs 1; types = T .types; storages = T .storages; variables = T .variables; statics = T .statics; places = T .places; nodes = T .nodes }
 grown-tables T Types w xs n e =
-    record { function = T .function; next = T .next; types = T .types ++ (record { word = typeWord w; args = xs; size = e .size; weight = e .weight; depth = e .depth } ∷ []); storages = T .storages; variables = T .variables; statics = T .statics; places = T .places; nodes = T .nodes }
+    record { function = T .function; next = T .next; types = T .types ++ (record { word = type-word-by w; args = xs; size = e .size; weight = e .weight; depth = e .depth } ∷ []); storages = T .storages; variables = T .variables; statics = T .statics; places = T .places; nodes = T .nodes }
 grown-tables T Storages w xs n e =
     record { function = T .function; next = T .next; types = T .types; storages = T .storages ++ (storage-line xs ∷ []); variables = T .variables; statics = T .statics; places = T .places; nodes = T .nodes }
 grown-tables T Variables w xs n e =
@@ -24,9 +24,9 @@ grown-tables T Variables w xs n e =
 grown-tables T Statics w xs n e =
     record { function = T .function; next = T .next; types = T .types; storages = T .storages; variables = T .variables; statics = T .statics ++ (placed-line xs ∷ []); places = T .places; nodes = T .nodes }
 grown-tables T Places w xs n e =
-    record { function = T .function; next = T .next; types = T .types; storages = T .storages; variables = T .variables; statics = T .statics; places = T .places ++ (record { word = placeWord w; args = xs; line = n; depth = e .depth } ∷ []); nodes = T .nodes }
+    record { function = T .function; next = T .next; types = T .types; storages = T .storages; variables = T .variables; statics = T .statics; places = T .places ++ (record { word = place-word-by w; args = xs; line = n; depth = e .depth } ∷ []); nodes = T .nodes }
 grown-tables T Nodes w xs n e =
-    record { function = T .function; next = T .next; types = T .types; storages = T .storages; variables = T .variables; statics = T .statics; places = T .places; nodes = T .nodes ++ (record { type = arg xs 0; word = nodeWord w; args = behind-type xs; line = n; depth = e .depth } ∷ []) }
+    record { function = T .function; next = T .next; types = T .types; storages = T .storages; variables = T .variables; statics = T .statics; places = T .places; nodes = T .nodes ++ (record { type = arg xs 0; word = node-word-by w; args = behind-type xs; line = n; depth = e .depth } ∷ []) }
 
 abbrev pub grown : Reading → LineKind → ℕ → List ℕ → Extent → Reading
 grown R k w xs e =

@@ -6,17 +6,17 @@ use mathlib.Core.List.{List, [], _∷_, _++_}
 use mathlib.Core.Option.{Option, none, some}
 use lib.Dec.{eqb, leb}
 use lib.ListN.{length, getD}
-use Rattle.fields.specs.Tab.{pick, run}
+use Rattle.tables.specs.Tables.{pick, run, cell, type-word-by}
 use Rattle.spec.specs.Limits.{depth-limit, type-depth-limit, size-sum-limit, weight-sum-limit}
 use Rattle.spec.specs.Ticket.{arg, type-size-by, weight-by}
 use Rattle.spec.specs.Read.{Reading, Step, stop, go, alike, type-number, once, mark}
-use Rattle.ticket.specs.Classes.{typeWord, argsOf}
-use Rattle.ticket.specs.Rows.{section, typeRow, entryAt, usedOf, readingOf, Held}
+use Rattle.ticket.specs.Classes.{argsOf}
+use Rattle.ticket.specs.Rows.{section, typeRow, usedOf, readingOf, Held}
 use Rattle.ticket.specs.Steps.{Measure, measured, deepestIn}
 use Rattle.ticket.specs.Grown.{grown}
 use Rattle.ticket.specs.declared.LineKind.{LineKind}
 use Rattle.ticket.specs.declared.LineKind.the-variants.{Functions, Types, Storages, Variables, Statics, Places, Nodes}
-use Rattle.ticket.specs.declared.Counts.{Counts}
+use Rattle.tables.specs.declared.Counts.{Counts}
 use Rattle.ticket.specs.declared.Extent.{Extent}
 use Rattle.ticket.specs.declared.Form.{Form}
 use Rattle.ticket.specs.declared.Stepped.{Stepped}
@@ -27,13 +27,13 @@ use Rattle.ticket.specs.declared.Summed.the-variants.{Sums, Beyond}
 -- ---------------------------------------------------------------- the later tests by the words
 
 abbrev pub startIn : ℕ → ℕ → Bool
-startIn zero w = eqb (type-number (typeWord w)) 1
-startIn (suc zero) w = eqb (type-number (typeWord w)) 4
+startIn zero w = eqb (type-number (type-word-by w)) 1
+startIn (suc zero) w = eqb (type-number (type-word-by w)) 4
 startIn (suc (suc n)) w = true
 
 abbrev pub typesIn : List ℕ → List ℕ → Counts → LineKind → ℕ → ℕ → Bool
 typesIn ws ls c Functions w n = true
-typesIn ws ls c Types w n = not (alike (typeWord w) (run ls (c .used) n) (section (typeRow ls) ws 0 (c .types))) && startIn (c .types) w
+typesIn ws ls c Types w n = not (alike (type-word-by w) (run ls (c .used) n) (section (typeRow ls) ws 0 (c .types))) && startIn (c .types) w
 typesIn ws ls c Storages w n = leb 2 (c .types)
 typesIn ws ls c Variables w n = leb 2 (c .types)
 typesIn ws ls c Statics w n = leb 2 (c .types)
@@ -46,8 +46,8 @@ nothing = some (record { size = 0; weight = 0 })
 abbrev pub sizedIn : List ℕ → List ℕ → Counts → LineKind → ℕ → ℕ → Option Measure
 sizedIn ws ls c Functions w n = nothing
 sizedIn ws ls c Types w n =
-    measured (type-size-by (λ t. entryAt ws 0 (c .types) t 3 0) (typeWord w) (run ls (c .used) n))
-    (weight-by (λ t. entryAt ws 0 (c .types) t 4 1) (typeWord w) (run ls (c .used) n))
+    measured (type-size-by (λ t. cell ws 0 (c .types) t 3 0) (type-word-by w) (run ls (c .used) n))
+    (weight-by (λ t. cell ws 0 (c .types) t 4 1) (type-word-by w) (run ls (c .used) n))
 sizedIn ws ls c Storages w n = nothing
 sizedIn ws ls c Variables w n = nothing
 sizedIn ws ls c Statics w n = nothing
@@ -70,7 +70,7 @@ ownIn ws ls c Storages n j other = 0
 ownIn ws ls c Variables n j other = 0
 ownIn ws ls c Statics n j other = 0
 ownIn ws ls c Places n j other = 0
-ownIn ws ls c Nodes n j other = entryAt ws 0 (c .types) (arg (run ls (c .used) n) 0) j other
+ownIn ws ls c Nodes n j other = cell ws 0 (c .types) (arg (run ls (c .used) n) 0) j other
 
 -- the sums over nodes with a line, where both are small enough
 unfoldable pub summed : ℕ → ℕ → Option Measure

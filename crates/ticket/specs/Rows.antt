@@ -1,30 +1,21 @@
--- The tables that the code's words hold.
---
--- `rows` has six words a row, each kind of line from a row of its own on: types from 0, storages from 256, variables from 512,
--- statics from 576, places from 640, nodes from 896, as many as the limits allow.
---
---   every row   0 the word's number    1 where its numbers start in `lists`    2 how many they are
---   types       3 size                 4 weight                                5 depth
---   p and n     3 line                 4 depth                                 5 0, or 1 once referred to
---
--- `lists` has the numbers of all lines, one line's behind another's; a node's first number is its TYPE.
+-- The rows that the code's words hold, and the tables read off them row by row. crates/tables/specs/Tables.antt has the layout; here the
+-- nodes' rows stand in one slice with all others, behind the places'.
 use Prim.Native.Nat.{ℕ, zero, suc, _+_, _*_, _≤_, _<_}
 use mathlib.Core.Path.{_≡_}
 use mathlib.Core.Bool.{Bool, true, false, not}
 use mathlib.Core.List.{List, [], _∷_, _++_}
 use mathlib.Core.Option.{Option, none, some}
-use lib.Dec.{eqb, ltb}
+use lib.Dec.{eqb}
 use lib.ListN.{length, getD, set}
-use Rattle.fields.specs.Tab.{tab, pick, run}
+use Rattle.tables.specs.Tables.{tab, run, storages-from, variables-from, statics-from, places-from, type-word-by, place-word-by, node-word-by}
 use Rattle.spec.specs.Limits.{type-lines, storage-lines, variable-lines, static-lines, place-lines, node-lines}
 use Rattle.spec.specs.Ticket.{TypeLine, StorageLine, PlacedLine, PlaceLine, NodeLine, Tables, arg}
 use Rattle.spec.specs.Read.{Used, Reading, storage-line, placed-line, behind-type}
-use Rattle.ticket.specs.Classes.{typeWord, placeWord, nodeWord}
-use Rattle.ticket.specs.declared.Counts.{Counts}
+use Rattle.tables.specs.declared.Counts.{Counts}
 
 -- word j of row r
-unfoldable pub cell : List ℕ → ℕ → ℕ → ℕ
-cell ws r j = getD ws (r * 6 + j) 0
+unfoldable pub word-at : List ℕ → ℕ → ℕ → ℕ
+word-at ws r j = getD ws (r * 6 + j) 0
 
 pub record Row : Type 0 where
   pub word : ℕ
@@ -35,24 +26,13 @@ pub record Row : Type 0 where
   pub fifth : ℕ
 
 unfoldable pub rowAt : List ℕ → ℕ → Row
-rowAt ws r = record { word = cell ws r 0; start = cell ws r 1; count = cell ws r 2; third = cell ws r 3; fourth = cell ws r 4; fifth = cell ws r 5 }
+rowAt ws r = record { word = word-at ws r 0; start = word-at ws r 1; count = word-at ws r 2; third = word-at ws r 3; fourth = word-at ws r 4; fifth = word-at ws r 5 }
 
 -- n rows from `base` on, as f reads them
 unfoldable pub section : {A : Type 0} → (Row → A) → List ℕ → ℕ → ℕ → List A
 section f ws base n = tab (λ k. f (rowAt ws (base + k))) 0 n
 
-abbrev pub storages-from : ℕ
-storages-from = type-lines
-
-abbrev pub variables-from : ℕ
-variables-from = storages-from + storage-lines
-
-abbrev pub statics-from : ℕ
-statics-from = variables-from + variable-lines
-
-abbrev pub places-from : ℕ
-places-from = statics-from + static-lines
-
+-- the nodes stand behind the places
 abbrev pub nodes-from : ℕ
 nodes-from = places-from + place-lines
 
@@ -64,7 +44,7 @@ unfoldable pub numbers : List ℕ → Row → List ℕ
 numbers ls r = run ls (r .start) (r .count)
 
 abbrev pub typeRow : List ℕ → Row → TypeLine
-typeRow ls r = record { word = typeWord (r .word); args = numbers ls r; size = r .third; weight = r .fourth; depth = r .fifth }
+typeRow ls r = record { word = type-word-by (r .word); args = numbers ls r; size = r .third; weight = r .fourth; depth = r .fifth }
 
 abbrev pub storageRow : List ℕ → Row → StorageLine
 storageRow ls r = storage-line (numbers ls r)
@@ -73,10 +53,10 @@ abbrev pub placedRow : List ℕ → Row → PlacedLine
 placedRow ls r = placed-line (numbers ls r)
 
 abbrev pub placeRow : List ℕ → Row → PlaceLine
-placeRow ls r = record { word = placeWord (r .word); args = numbers ls r; line = r .third; depth = r .fourth }
+placeRow ls r = record { word = place-word-by (r .word); args = numbers ls r; line = r .third; depth = r .fourth }
 
 abbrev pub nodeRow : List ℕ → Row → NodeLine
-nodeRow ls r = record { type = arg (numbers ls r) 0; word = nodeWord (r .word); args = behind-type (numbers ls r); line = r .third; depth = r .fourth }
+nodeRow ls r = record { type = arg (numbers ls r) 0; word = node-word-by (r .word); args = behind-type (numbers ls r); line = r .third; depth = r .fourth }
 
 abbrev pub marked : Row → Bool
 marked r = not (eqb (r .fifth) 0)
@@ -108,10 +88,6 @@ readingOf ws ls c =
       weights = c .weights;
     }
 
--- what stands in word j of row k of n; `other` past them
-unfoldable pub entryAt : List ℕ → ℕ → ℕ → ℕ → ℕ → ℕ → ℕ
-entryAt ws base n k j other = pick (ltb k n) (cell ws (base + k) j) other
-
 -- no kind has more lines than it may
 pub record Few (c : Counts) : Type 0 where
   pub types : c .types ≤ type-lines
@@ -123,7 +99,7 @@ pub record Few (c : Counts) : Type 0 where
 
 -- the numbers of n rows end within the first `used` of the lists
 pub record Inside (ws : List ℕ) (used base n : ℕ) : Type 0 where
-  pub ends : (k : ℕ) → k < n → cell ws (base + k) 1 + cell ws (base + k) 2 ≤ used
+  pub ends : (k : ℕ) → k < n → word-at ws (base + k) 1 + word-at ws (base + k) 2 ≤ used
 
 -- what reading keeps of the words
 pub record Held (ws : List ℕ) (c : Counts) : Type 0 where
@@ -147,11 +123,5 @@ withMark r = record { word = r .word; start = r .start; count = r .count; third 
 pub record MarkAt (u t : List ℕ) (base n k : ℕ) (r : Bool) : Type 0 where
   pub answer : not r ≡ getD (section marked u base n) k false
   pub marks : section marked t base n ≡ set (section marked u base n) k true
-  pub cells : (q j : ℕ) → (j ≡ 5 → ⊥) → j < 6 → cell t q j ≡ cell u q j
+  pub cells : (q j : ℕ) → (j ≡ 5 → ⊥) → j < 6 → word-at t q j ≡ word-at u q j
   pub others : (q : ℕ) → (k < n → q ≡ base + k → ⊥) → rowAt t q ≡ rowAt u q
-
--- ---------------------------------------------------------------- look-ups
-
--- the numbers of row k of n; none past them
-unfoldable pub numbersAt : List ℕ → List ℕ → ℕ → ℕ → ℕ → List ℕ
-numbersAt ws ls base n k = pick (ltb k n) (numbers ls (rowAt ws (base + k))) []

@@ -6,7 +6,7 @@ use mathlib.Core.List.{List, [], _∷_, _++_}
 use mathlib.Core.Option.{Option, none, some}
 use lib.Dec.{eqb, leb, ltb}
 use lib.ListN.{length, getD, set}
-use Rattle.fields.specs.Tab.{tab, pick, run}
+use Rattle.tables.specs.Tables.{tab, pick, run, places-from, cell}
 use Rattle.spec.specs.Limits.{
   type-lines,
   storage-lines,
@@ -37,11 +37,11 @@ use Rattle.spec.specs.Read.{
   test,
 }
 use Rattle.ticket.specs.Classes.{headOf, classAt, argsOf}
-use Rattle.ticket.specs.Rows.{cell, rowAt, entryAt, usedOf, places-from, nodes-from}
+use Rattle.ticket.specs.Rows.{word-at, rowAt, usedOf, nodes-from}
 use Rattle.ticket.specs.declared.LineKind.{LineKind}
 use Rattle.ticket.specs.declared.LineKind.the-variants.{Functions, Types, Storages, Variables, Statics, Places, Nodes}
 use Rattle.ticket.specs.declared.Form.{Form}
-use Rattle.ticket.specs.declared.Counts.{Counts}
+use Rattle.tables.specs.declared.Counts.{Counts}
 use Rattle.ticket.specs.declared.Verdict.{Verdict}
 use Rattle.ticket.specs.declared.Verdict.the-variants.{Passed, Refused}
 use Rattle.ticket.specs.declared.Capped.{Capped}
@@ -79,11 +79,11 @@ earlierArg c a = earlierIn c (a .class) (a .value)
 abbrev pub depthIn : List ℕ → Counts → Field → ℕ → ℕ
 depthIn ws c (between a b) x = 0
 depthIn ws c float-width x = 0
-depthIn ws c type-part x = entryAt ws 0 (c .types) x 5 1
+depthIn ws c type-part x = cell ws 0 (c .types) x 5 1
 depthIn ws c type x = 0
 depthIn ws c storage x = 0
-depthIn ws c place x = entryAt ws places-from (c .places) x 4 0
-depthIn ws c node x = entryAt ws nodes-from (c .nodes) x 4 0
+depthIn ws c place x = cell ws places-from (c .places) x 4 0
+depthIn ws c node x = cell ws nodes-from (c .nodes) x 4 0
 
 unfoldable pub deepestIn : List ℕ → Counts → List Arg → ℕ
 deepestIn ws c [] = 0
@@ -102,7 +102,7 @@ early-tests f ls c =
 
 -- words that differ in the marks of places and nodes alone
 pub record Alike (u t : List ℕ) : Type 0 where
-  pub cells : (q j : ℕ) → (j ≡ 5 → ⊥) → j < 6 → cell t q j ≡ cell u q j
+  pub cells : (q j : ℕ) → (j ≡ 5 → ⊥) → j < 6 → word-at t q j ≡ word-at u q j
   pub rows : (q : ℕ) → q < places-from → rowAt t q ≡ rowAt u q
 
 -- u with a number's line marked, where it was not, is t

@@ -3,25 +3,27 @@ ghost use mathlib.Core.Path.{_≡_};
 ghost use mathlib.Core.Bool.{true};
 ghost use Prim.Native.Nat.{_+_, _*_, _≤_, _<_};
 ghost use lib.ListN.{length};
-ghost use Rattle.fields.specs.Tab.{run};
+ghost use Rattle.tables.specs.Tables.{run};
 ghost use Rattle.ticket.specs.Rows.{Held, rows-length};
 ghost use Rattle.ticket.specs.Steps.{fewOf};
 ghost use Rattle.ticket.specs.Grown.{Added};
-use crate::Counts;
 use crate::Extent;
 use crate::Form;
 use crate::LineKind;
-use crate::tables::arg;
-use crate::tables::put_row;
+use crate::rows::put_row;
+use tables::Counts;
+use tables::arg;
 
 fn add_function(lists: &[u64], counts: Counts, n: usize, e: Extent, rows: &[u64]) -> Counts
     requires { ⌜ Held (now rows) counts × (counts .used + n ≤ length (now lists)) × (counts .lines < 65536) ⌝ }
     ensures { λ r. ⌜ Added (now (rows .entry)) (now (rows .entry)) (now (lists .entry)) counts LineKind.Functions 0 n e r ⌝ }
 {
     let used = counts.used;
+    let start = used as u64;
+    let count = n as u64;
     Counts {
-        function: arg(lists, used, n, 0),
-        next: arg(lists, used, n, 1),
+        function: arg(lists, start, count, 0),
+        next: arg(lists, start, count, 1),
         types: counts.types,
         storages: counts.storages,
         variables: counts.variables,

@@ -4,7 +4,7 @@ ghost use mathlib.Core.List.{[], _∷_};
 ghost use mathlib.Core.Bool.{_&&_, _||_};
 ghost use Prim.Native.Nat.{_+_, _*_, _≤_, _<_, max};
 ghost use lib.ListN.{length, getD};
-ghost use Rattle.fields.specs.Tab.{run};
+ghost use Rattle.tables.specs.Tables.{run};
 ghost use Rattle.spec.specs.Read.{
   all,
   rank as rankOf,
@@ -32,14 +32,14 @@ ghost use Rattle.ticket.specs.Steps.{verdictOf, fewOf, earlierIn, earlie
 ghost use Rattle.spec.specs.Ticket.{arg as argOf};
 ghost use lib.Dec.{eqb, leb};
 use crate::Class;
-use crate::Counts;
 use crate::Form;
 use crate::LineKind;
 use crate::Verdict;
 use crate::forms::class_at;
-use crate::tables::arg;
-use crate::tables::entry;
-use crate::tables::mark;
+use crate::rows::mark;
+use tables::Counts;
+use tables::arg;
+use tables::cell;
 
 // 2: the order of kinds.
 fn rank(kind: LineKind) -> u64
@@ -163,8 +163,8 @@ fn lengths(lists: &[u64], start: usize, n: usize) -> bool
     requires { ⌜ start + n ≤ length (now lists) ⌝ }
     ensures { λ r. ⌜ r ≡ length-fits (argOf (run (now (lists .entry)) start n) 0) (argOf (run (now (lists .entry)) start n) 1) ⌝ }
 {
-    let kind = arg(lists, start, n, 0);
-    let len = arg(lists, start, n, 1);
+    let kind = arg(lists, start as u64, n as u64, 0);
+    let len = arg(lists, start as u64, n as u64, 1);
     length_fit(kind, len)
 }
 
@@ -172,8 +172,8 @@ fn bits(lists: &[u64], start: usize, n: usize) -> bool
     requires { ⌜ start + n ≤ length (now lists) ⌝ }
     ensures { λ r. ⌜ r ≡ bit-fits (argOf (run (now (lists .entry)) start n) 2) (argOf (run (now (lists .entry)) start n) 3) ⌝ }
 {
-    let ty = arg(lists, start, n, 2);
-    let bit = arg(lists, start, n, 3);
+    let ty = arg(lists, start as u64, n as u64, 2);
+    let bit = arg(lists, start as u64, n as u64, 3);
     bit_fit(ty, bit)
 }
 
@@ -250,11 +250,11 @@ fn depth(class: Class, rows: &[u64], counts: Counts, x: u64) -> u64
     match class {
         Class::Between(_, _) => 0,
         Class::FloatWidth => 0,
-        Class::TypePart => entry(rows, 0, counts.types, x, 5, 1),
+        Class::TypePart => cell(rows, 0, counts.types, x, 5, 1),
         Class::TypeLine => 0,
         Class::StorageLine => 0,
-        Class::PlaceLine => entry(rows, 640, counts.places, x, 4, 0),
-        Class::NodeLine => entry(rows, 896, counts.nodes, x, 4, 0),
+        Class::PlaceLine => cell(rows, 640, counts.places, x, 4, 0),
+        Class::NodeLine => cell(rows, 896, counts.nodes, x, 4, 0),
     }
 }
 

@@ -2,7 +2,7 @@
 ghost use mathlib.Core.Path.{_≡_};
 ghost use Prim.Native.Nat.{_+_, _*_, _≤_};
 ghost use lib.ListN.{length, getD};
-ghost use Rattle.fields.specs.Tab.{run};
+ghost use Rattle.tables.specs.Tables.{run};
 ghost use Rattle.fields.specs.Fields.{fields-from, numbers-of, onto, WordAt};
 ghost use Rattle.spec.specs.Forms.{type-form, place-form, node-form, lineOf, form-of};
 ghost use Rattle.spec.specs.Text.{bytes};

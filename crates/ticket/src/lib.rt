@@ -1,14 +1,14 @@
 // The ticket: its lines as tables, the expression that they stand for, and its reading.
 ghost use mathlib.Core.Path.{_≡_};
+use tables::Counts;
 
 mod adding;
 mod checks;
 mod forms;
-pub mod lookups;
 mod measures;
 pub mod reading;
+mod rows;
 mod steps;
-pub mod tables;
 
 // Kinds of lines, in their order.
 pub enum LineKind {
@@ -42,23 +42,6 @@ pub struct Form {
 pub enum Formed {
     Line(Form),
     Unformed,
-}
-
-// How many lines of each kind there are, the numbers in use of the lists, and the state of reading.
-pub struct Counts {
-    pub function: u64,
-    pub next: u64,
-    pub types: u64,
-    pub storages: u64,
-    pub variables: u64,
-    pub statics: u64,
-    pub places: u64,
-    pub nodes: u64,
-    pub used: usize,
-    pub stage: u64,
-    pub lines: u64,
-    pub sizes: u64,
-    pub weights: u64,
 }
 
 // A number within a limit.
@@ -107,6 +90,12 @@ pub enum Least {
 pub enum Advanced {
     Behind(Counts, usize),
     Stopped(u64),
+}
+
+// The text, and where its next line begins.
+pub struct Reader<'a> {
+    pub text: &'a [u8],
+    pub at: usize,
 }
 
 // The refusal's number and line, or the tables' counts.

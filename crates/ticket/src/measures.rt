@@ -3,18 +3,17 @@ ghost use mathlib.Core.Path.{_≡_};
 ghost use Prim.Native.Nat.{_+_, _*_, _/_, _≤_, _<_};
 ghost use lib.ListN.{length, getD};
 ghost use Rattle.spec.specs.Text.{same};
-ghost use Rattle.fields.specs.Tab.{run};
+ghost use Rattle.tables.specs.Tables.{run, cell, type-word-by};
 ghost use Rattle.spec.specs.Limits.{type-size-limit, type-weight-limit};
 ghost use Rattle.spec.specs.Ticket.{arg as argOf, sum, type-size-by, weight-by};
 ghost use Rattle.spec.specs.Read.{alike as alikeOf, type-number as numberOf};
-ghost use Rattle.ticket.specs.Classes.{typeWord};
-ghost use Rattle.ticket.specs.Rows.{Few, Held, rowAt, section, typeRow, entryAt};
+ghost use Rattle.ticket.specs.Rows.{Few, Held, rowAt, section, typeRow};
 ghost use Rattle.ticket.specs.Steps.{cappedOf, capped, measuredOf, measured, moreOf, alikeTo};
 use crate::Capped;
-use crate::Counts;
 use crate::Measured;
-use crate::tables::arg;
-use crate::tables::entry;
+use tables::Counts;
+use tables::arg;
+use tables::cell;
 
 fn same_runs(lists: &[u64], a: usize, n: usize, b: usize, m: usize) -> bool
     requires { ⌜ (a + n ≤ length (now lists)) × (b + m ≤ length (now lists)) ⌝ }
@@ -37,7 +36,7 @@ fn same_runs(lists: &[u64], a: usize, n: usize, b: usize, m: usize) -> bool
 
 // A type word's number, 0 where there is no such word.
 pub fn type_number(w: u64) -> u64
-    ensures { λ r. ⌜ r ≡ numberOf (typeWord w) ⌝ }
+    ensures { λ r. ⌜ r ≡ numberOf (type-word-by w) ⌝ }
 {
     if w < 9 { w } else { 0 }
 }
@@ -54,18 +53,18 @@ fn alike_row(
     requires { ⌜ (start + n ≤ length (now lists)) × Held (now rows) counts × (counts .used ≤ length (now lists)) × (k < counts .types) ⌝ }
     ensures { λ r. ⌜ r ≡ alikeTo w (run (now (lists .entry)) start n) (typeRow (now (lists .entry)) (rowAt (now (rows .entry)) k)) ⌝ }
 {
-    let v = entry(rows, 0, counts.types, k, 0, 0);
+    let v = cell(rows, 0, counts.types, k, 0, 0);
     if type_number(v) != w {
         return false;
     }
-    let b = entry(rows, 0, counts.types, k, 1, 0);
-    let m = entry(rows, 0, counts.types, k, 2, 0);
+    let b = cell(rows, 0, counts.types, k, 1, 0);
+    let m = cell(rows, 0, counts.types, k, 2, 0);
     same_runs(lists, start, n, b as usize, m as usize)
 }
 
 pub fn alike(rows: &[u64], lists: &[u64], counts: Counts, word: u64, start: usize, n: usize) -> bool
     requires { ⌜ (start + n ≤ length (now lists)) × Held (now rows) counts × (counts .used ≤ length (now lists)) ⌝ }
-    ensures { λ r. ⌜ r ≡ alikeOf (typeWord word) (run (now (lists .entry)) start n) (section (typeRow (now (lists .entry))) (now (rows .entry)) 0 (counts .types)) ⌝ }
+    ensures { λ r. ⌜ r ≡ alikeOf (type-word-by word) (run (now (lists .entry)) start n) (section (typeRow (now (lists .entry))) (now (rows .entry)) 0 (counts .types)) ⌝ }
 {
     let w = type_number(word);
     let most = counts.types;
@@ -128,13 +127,13 @@ fn cap_sum(
     limit: u64,
 ) -> Capped
     requires { ⌜ (start + n ≤ length (now lists)) × (types ≤ 65536) × (j < 6) ⌝ }
-    ensures { λ r. ⌜ cappedOf r ≡ capped limit (sum (λ t. entryAt (now (rows .entry)) 0 types t j other) (run (now (lists .entry)) start n)) ⌝ }
+    ensures { λ r. ⌜ cappedOf r ≡ capped limit (sum (λ t. cell (now (rows .entry)) 0 types t j other) (run (now (lists .entry)) start n)) ⌝ }
 {
     let mut total: u64 = 0;
     let mut i: usize = 0;
     while i < n {
         let at = start + i;
-        let x = entry(rows, 0, types, lists[at], j, other);
+        let x = cell(rows, 0, types, lists[at], j, other);
         if limit - total < x {
             return Capped::Over;
         }
@@ -155,28 +154,28 @@ fn bits_size(width: u64) -> Capped
 
 fn array_size(rows: &[u64], lists: &[u64], types: u64, start: usize, n: usize) -> Capped
     requires { ⌜ (start + n ≤ length (now lists)) × (types ≤ 65536) ⌝ }
-    ensures { λ r. ⌜ cappedOf r ≡ capped type-size-limit (entryAt (now (rows .entry)) 0 types (argOf (run (now (lists .entry)) start n) 0) 3 0 * argOf (run (now (lists .entry)) start n) 1) ⌝ }
+    ensures { λ r. ⌜ cappedOf r ≡ capped type-size-limit (cell (now (rows .entry)) 0 types (argOf (run (now (lists .entry)) start n) 0) 3 0 * argOf (run (now (lists .entry)) start n) 1) ⌝ }
 {
-    let t = arg(lists, start, n, 0);
-    let len = arg(lists, start, n, 1);
-    let size = entry(rows, 0, types, t, 3, 0);
+    let t = arg(lists, start as u64, n as u64, 0);
+    let len = arg(lists, start as u64, n as u64, 1);
+    let size = cell(rows, 0, types, t, 3, 0);
     cap_product(1024, size, len)
 }
 
 fn array_weight(rows: &[u64], lists: &[u64], types: u64, start: usize, n: usize) -> Capped
     requires { ⌜ (start + n ≤ length (now lists)) × (types ≤ 65536) ⌝ }
-    ensures { λ r. ⌜ cappedOf r ≡ capped type-weight-limit (1 + argOf (run (now (lists .entry)) start n) 1 * entryAt (now (rows .entry)) 0 types (argOf (run (now (lists .entry)) start n) 0) 4 1) ⌝ }
+    ensures { λ r. ⌜ cappedOf r ≡ capped type-weight-limit (1 + argOf (run (now (lists .entry)) start n) 1 * cell (now (rows .entry)) 0 types (argOf (run (now (lists .entry)) start n) 0) 4 1) ⌝ }
 {
-    let t = arg(lists, start, n, 0);
-    let len = arg(lists, start, n, 1);
-    let weight = entry(rows, 0, types, t, 4, 1);
+    let t = arg(lists, start as u64, n as u64, 0);
+    let len = arg(lists, start as u64, n as u64, 1);
+    let weight = cell(rows, 0, types, t, 4, 1);
     let c = cap_product(4096, len, weight);
     cap_more(4096, c)
 }
 
 fn sum_weight(rows: &[u64], lists: &[u64], types: u64, start: usize, n: usize) -> Capped
     requires { ⌜ (start + n ≤ length (now lists)) × (types ≤ 65536) ⌝ }
-    ensures { λ r. ⌜ cappedOf r ≡ capped type-weight-limit (1 + sum (λ t. entryAt (now (rows .entry)) 0 types t 4 1) (run (now (lists .entry)) start n)) ⌝ }
+    ensures { λ r. ⌜ cappedOf r ≡ capped type-weight-limit (1 + sum (λ t. cell (now (rows .entry)) 0 types t 4 1) (run (now (lists .entry)) start n)) ⌝ }
 {
     let c = cap_sum(rows, lists, types, start, n, 4, 1, 4096);
     cap_more(4096, c)
@@ -185,24 +184,24 @@ fn sum_weight(rows: &[u64], lists: &[u64], types: u64, start: usize, n: usize) -
 // `type_size`, within the limit.
 fn size(rows: &[u64], lists: &[u64], types: u64, w: u64, start: usize, n: usize) -> Capped
     requires { ⌜ (start + n ≤ length (now lists)) × (types ≤ 65536) ⌝ }
-    ensures { λ r. ⌜ cappedOf r ≡ capped type-size-limit (type-size-by (λ t. entryAt (now (rows .entry)) 0 types t 3 0) (typeWord w) (run (now (lists .entry)) start n)) ⌝ }
+    ensures { λ r. ⌜ cappedOf r ≡ capped type-size-limit (type-size-by (λ t. cell (now (rows .entry)) 0 types t 3 0) (type-word-by w) (run (now (lists .entry)) start n)) ⌝ }
 {
     match w {
         1 => Capped::Within(1),
-        2 => bits_size(arg(lists, start, n, 0)),
-        3 => cap(1024, arg(lists, start, n, 0) / 8),
+        2 => bits_size(arg(lists, start as u64, n as u64, 0)),
+        3 => cap(1024, arg(lists, start as u64, n as u64, 0) / 8),
         4 => Capped::Within(2),
         5 => array_size(rows, lists, types, start, n),
         6 => cap_sum(rows, lists, types, start, n, 3, 0, 1024),
         7 => cap_sum(rows, lists, types, start, n, 3, 0, 1024),
-        8 => cap(1024, arg(lists, start, n, 0)),
+        8 => cap(1024, arg(lists, start as u64, n as u64, 0)),
         _ => Capped::Within(0),
     }
 }
 
 fn weight(rows: &[u64], lists: &[u64], types: u64, w: u64, start: usize, n: usize) -> Capped
     requires { ⌜ (start + n ≤ length (now lists)) × (types ≤ 65536) ⌝ }
-    ensures { λ r. ⌜ cappedOf r ≡ capped type-weight-limit (weight-by (λ t. entryAt (now (rows .entry)) 0 types t 4 1) (typeWord w) (run (now (lists .entry)) start n)) ⌝ }
+    ensures { λ r. ⌜ cappedOf r ≡ capped type-weight-limit (weight-by (λ t. cell (now (rows .entry)) 0 types t 4 1) (type-word-by w) (run (now (lists .entry)) start n)) ⌝ }
 {
     match w {
         5 => array_weight(rows, lists, types, start, n),
@@ -215,8 +214,8 @@ fn weight(rows: &[u64], lists: &[u64], types: u64, w: u64, start: usize, n: usiz
 // 6: a type's size and weight.
 pub fn measure(rows: &[u64], lists: &[u64], types: u64, w: u64, start: usize, n: usize) -> Measured
     requires { ⌜ (start + n ≤ length (now lists)) × (types ≤ 65536) ⌝ }
-    ensures { λ r. ⌜ measuredOf r ≡ measured (type-size-by (λ t. entryAt (now (rows .entry)) 0 types t 3 0) (typeWord w) (run (now (lists .entry)) start n))
-        (weight-by (λ t. entryAt (now (rows .entry)) 0 types t 4 1) (typeWord w) (run (now (lists .entry)) start n)) ⌝ }
+    ensures { λ r. ⌜ measuredOf r ≡ measured (type-size-by (λ t. cell (now (rows .entry)) 0 types t 3 0) (type-word-by w) (run (now (lists .entry)) start n))
+        (weight-by (λ t. cell (now (rows .entry)) 0 types t 4 1) (type-word-by w) (run (now (lists .entry)) start n)) ⌝ }
 {
     let Capped::Within(s) = size(rows, lists, types, w, start, n) else {
         return Measured::TooLarge;

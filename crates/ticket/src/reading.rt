@@ -5,14 +5,15 @@ ghost use lib.ListN.{length, drop};
 ghost use Rattle.spec.specs.Text.{split, line-feed};
 ghost use Rattle.spec.specs.Read.{at-end, read-lines as readLines, read-ticket as readTicket, start};
 ghost use Rattle.ticket.specs.Rows.{Few, Held, rows-length, readingOf};
-ghost use Rattle.ticket.specs.Answers.{leastOf, joined, with-left, least-rows, but-last, left-of, Answered, Advance, Begun};
+ghost use Rattle.ticket.specs.Answers.{leastOf, joined, with-left, least-rows, but-last, left-of, Answered, Advance, Ready, behindOf, Begun};
 use crate::Advanced;
-use crate::Counts;
 use crate::Least;
 use crate::ReadAnswer;
+use crate::Reader;
 use crate::Stepped;
 use crate::steps::step;
-use crate::tables::entry;
+use tables::Counts;
+use tables::cell;
 
 fn lesser(x: u64, least: Least) -> Least
     ensures { λ r. ⌜ leastOf r ≡ joined x (leastOf least) ⌝ }
@@ -31,10 +32,10 @@ fn with_row(rows: &[u64], base: u64, n: u64, k: u64, least: Least) -> Least
     requires { ⌜ (base + n ≤ 65536) × (k < n) ⌝ }
     ensures { λ r. ⌜ leastOf r ≡ with-left (now (rows .entry)) (base + k) (leastOf least) ⌝ }
 {
-    if entry(rows, base, n, k, 5, 0) != 0 {
+    if cell(rows, base, n, k, 5, 0) != 0 {
         return least;
     }
-    let line = entry(rows, base, n, k, 3, 0);
+    let line = cell(rows, base, n, k, 3, 0);
     lesser(line, least)
 }
 
@@ -85,7 +86,7 @@ fn finish(rows: &[u64], lists: &[u64], counts: Counts) -> ReadAnswer
 
 // The line at a position, judged and added.
 fn advance(text: &[u8], at: usize, rows: &mut [u64], lists: &mut [u64], counts: Counts) -> Advanced
-    requires { ⌜ Held (now rows) counts × (rows-length ≤ length (now rows)) × (length (now text) ≤ length (now lists) * 2) × (counts .used * 2 ≤ at) × (counts .lines ≤ at) × (at < length (now text)) × (length (now text) ≤ 65536) ⌝ }
+    requires { ⌜ Ready (now text) (now rows) (now lists) counts at ⌝ }
     ensures { λ r. ⌜ Advance (now (text .entry)) (now (rows .entry)) (now (lists .entry)) (now (rows .exit)) (now (lists .exit)) counts at r ⌝ }
 {
     let end = fields::find(text, at, 10);
@@ -96,6 +97,41 @@ fn advance(text: &[u8], at: usize, rows: &mut [u64], lists: &mut [u64], counts: 
         Stepped::Went(next) => Advanced::Behind(next, end + 1),
         Stepped::Turned(n) => Advanced::Stopped(n),
     }
+}
+
+// The position behind a line, or the same where reading stopped.
+fn behind(answer: Advanced, at: usize) -> usize
+    ensures { λ r. ⌜ r ≡ behindOf answer at ⌝ }
+{
+    match answer {
+        Advanced::Behind(_, p) => p,
+        Advanced::Stopped(_) => at,
+    }
+}
+
+// The reader's next line: its position moves behind it.
+fn next_line(
+    reader: &mut Reader<'_>,
+    rows: &mut [u64],
+    lists: &mut [u64],
+    counts: Counts,
+) -> Advanced
+    requires { ⌜ Ready (now (now reader .text)) (now rows) (now lists) counts (now reader .at) ⌝ }
+    ensures { λ r. ⌜ Advance (now (now (reader .entry) .text)) (now (rows .entry)) (now (lists .entry)) (now (rows .exit)) (now (lists .exit)) counts (now (reader .entry) .at) r × (now (reader .exit) .text ≡ now (reader .entry) .text) × (now (reader .exit) .at ≡ behindOf r (now (reader .entry) .at)) ⌝ }
+{
+    let at = reader.at;
+    let answer = advance(reader.text, at, rows, lists, counts);
+    reader.at = behind(answer, at);
+    answer
+}
+
+// The line at a position, as a reader that stands there gives it.
+fn line_at(text: &[u8], at: usize, rows: &mut [u64], lists: &mut [u64], counts: Counts) -> Advanced
+    requires { ⌜ Ready (now text) (now rows) (now lists) counts at ⌝ }
+    ensures { λ r. ⌜ Advance (now (text .entry)) (now (rows .entry)) (now (lists .entry)) (now (rows .exit)) (now (lists .exit)) counts at r ⌝ }
+{
+    let mut reader = Reader { text, at };
+    next_line(&mut reader, rows, lists, counts)
 }
 
 // No line read.
@@ -126,7 +162,7 @@ fn read_lines(text: &[u8], rows: &mut [u64], lists: &mut [u64]) -> ReadAnswer
     let mut counts = none_read();
     let mut at: usize = 0;
     while at < text.len() {
-        match advance(text, at, rows, lists, counts) {
+        match line_at(text, at, rows, lists, counts) {
             Advanced::Behind(next, behind) => {
                 counts = next;
                 at = behind;

@@ -3,16 +3,15 @@ ghost use mathlib.Core.Path.{_≡_};
 ghost use mathlib.Core.Bool.{true};
 ghost use Prim.Native.Nat.{_+_, _*_, _≤_, _<_};
 ghost use lib.ListN.{length};
-ghost use Rattle.fields.specs.Tab.{run};
+ghost use Rattle.tables.specs.Tables.{run, type-word-by};
 ghost use Rattle.spec.specs.Limits.{size-sum-limit};
 ghost use Rattle.spec.specs.Forms.{lineOf};
 ghost use Rattle.spec.specs.Read.{right-start as rightStart, types-right as typesRight, step as stepFrom};
-ghost use Rattle.ticket.specs.Classes.{typeWord, headOf, lineFrom};
+ghost use Rattle.ticket.specs.Classes.{headOf, lineFrom};
 ghost use Rattle.ticket.specs.Rows.{Few, Held, rows-length, tablesOf, readingOf};
 ghost use Rattle.ticket.specs.Steps.{fewOf, measuredOf, capped, cappedOf};
 ghost use Rattle.ticket.specs.Judged.{typesIn, startIn, sizedIn, allowedIn, ownIn, summedOf, sumsIn, Judged, last-step, late-step, StepAt};
 use crate::Capped;
-use crate::Counts;
 use crate::Extent;
 use crate::Form;
 use crate::Formed;
@@ -29,8 +28,9 @@ use crate::forms::line_form;
 use crate::measures::alike;
 use crate::measures::measure;
 use crate::measures::type_number;
-use crate::tables::arg;
-use crate::tables::entry;
+use tables::Counts;
+use tables::arg;
+use tables::cell;
 
 // 5: types 0 and 1 are bool and pointer.
 fn right_start(k: u64, word: u64) -> bool
@@ -114,8 +114,8 @@ fn own_node(rows: &[u64], lists: &[u64], counts: Counts, n: usize, j: u64, other
     ensures { λ r. ⌜ r ≡ ownIn (now (rows .entry)) (now (lists .entry)) counts LineKind.Nodes n j other ⌝ }
 {
     let used = counts.used;
-    let t = arg(lists, used, n, 0);
-    entry(rows, 0, counts.types, t, j, other)
+    let t = arg(lists, used as u64, n as u64, 0);
+    cell(rows, 0, counts.types, t, j, other)
 }
 
 fn own(form: Form, rows: &[u64], lists: &[u64], counts: Counts, j: u64, other: u64) -> u64

@@ -4,7 +4,7 @@ use mathlib.Core.Path.{_≡_}
 use Prim.Native.Nat.{_≤_, _-_, _<_, _+_, _*_, _^_}
 use lib.ListN.{length, drop, getD}
 use borrow.Author.Needs.{needs}
-use Rattle.fields.specs.Tab.{run}
+use Rattle.tables.specs.Tables.{run}
 use Rattle.fields.specs.Fields.{numbers-of, fields-from, onto, Kept}
 use Rattle.fields.proofs.Lines.{list-start, list-end, list-broken, list-more, value-ahead}
 use Rattle.fields.proofs.Tabs.{kept-put, kept-all, length-put}

@@ -11,7 +11,7 @@ type-size-requires : tie.Need-type-size-requires
 type-size-requires c κs = readable-sized _ _ _ _ (c .before .before .before .before .pre)
 
 returns : tie.Need-returns
-returns c = base-read _ _ _ _ _ _ _ (c .before .before .type-at .ensures) (c .before .type-size .ensures)
+returns c = base-read _ _ _ _ (c .before .before .before .before .before .before .pre .types) _ _ _ (c .before .before .type-at .ensures) (c .before .type-size .ensures)
 
 pub base-of-spec : {M : Type 1} → statement M
 base-of-spec = tie.close (tie.spec type-at-requires type-size-requires returns)

@@ -15,7 +15,7 @@ add-t10 : tie.Need-add-t10
 add-t10 c = search needs
 
 returns : tie.Need-returns
-returns c = part-read _ _ _ _ _ _ _ _ (c .before .before .before .before .type-at .ensures) (c .before .before .before .type-size .ensures)
+returns c = part-read _ _ _ _ (c .before .before .before .before .before .before .before .before .pre .0 .types) _ _ _ _ (c .before .before .before .before .type-at .ensures) (c .before .before .before .type-size .ensures)
 
 pub part-of-spec : {M : Type 1} → statement M
 part-of-spec = tie.close (tie.spec type-at-requires type-size-requires add-t10 returns)

@@ -11,7 +11,9 @@ width-of-requires : tie.Need-width-of-requires
 width-of-requires c κs = search needs
 
 returns : tie.Need-returns
-returns c = λ nodes lists. has-width _ nodes lists _ _ (rw (c .before .type-at .ensures) at (c .width-of .ensures lists))
+returns c =
+    let ls = c .before .before .before .before .args .lists .now in
+    λ nodes. has-width _ nodes ls _ _ (rw (c .before .type-at .ensures) at (c .width-of .ensures ls))
 
 pub integer-width-spec : {M : Type 1} → statement M
 integer-width-spec = tie.close (tie.spec type-at-requires width-of-requires returns)

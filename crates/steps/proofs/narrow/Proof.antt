@@ -18,13 +18,13 @@ same-length : tie.Need-same-length
 same-length c = search needs
 
 returns : tie.Need-returns
-returns c = narrow-in _ _ (c .before .before .before .before .before .args .counts) _ (c .before .before .storage-owner .ensures) (c .before .if1 .taken)
+returns c = narrow-in _ _ _ (c .before .before .before .before .before .before .args .counts) _ (c .before .before .storage-owner .ensures) (c .before .if1 .taken)
 
 returns-2 : tie.Need-returns-2
-returns-2 c = narrow-out _ _ (c .before .before .before .before .before .args .counts) _ (c .before .before .storage-owner .ensures) (c .before .if1 .taken) (omega (arith, c .if2 .left))
+returns-2 c = narrow-out _ _ _ (c .before .before .before .before .before .before .args .counts) _ (c .before .before .storage-owner .ensures) (c .before .if1 .taken) (omega (arith, c .if2 .left))
 
 returns-3 : tie.Need-returns-3
-returns-3 c = narrow-not _ _ (c .before .before .before .before .args .counts) _ (c .before .storage-owner .ensures) (c .if1 .left)
+returns-3 c = narrow-not _ _ _ (c .before .before .before .before .before .args .counts) _ (c .before .storage-owner .ensures) (c .if1 .left)
 
 pub narrow-spec : {M : Type 1} → statement M
 narrow-spec =

@@ -23,13 +23,13 @@ enum-known-b : tie.Need-enum-known-b
 enum-known-b c = search needs
 
 not-zero-requires : tie.Need-not-zero-requires
-not-zero-requires c κs = (rw (c .before .before .before .b .given .1) at (c .before .before .before .before .before .value-bytes .ensures .small), c .before .before .before .before .before .before .before .before .before .before .before .before .before .pre .2)
+not-zero-requires c κs = (rw (c .before .before .before .b .given .1) at (c .before .before .before .before .before .value-bytes .ensures .small), c .before .before .before .before .before .before .before .before .before .before .before .before .before .before .pre .2)
 
 returns : tie.Need-returns
-returns c = λ nodes lists. record { shown = zero-no-width _ _ (wide (c .before .before .before .before .before .before .args .v) (rw (c .enum-told .given .1) at (c .before .before .integer-width .ensures nodes lists))) }
+returns c = λ nodes. record { shown = zero-no-width _ _ (wide (c .before .before .before .before .before .before .before .args .v) (rw (c .enum-told .given .1) at (c .before .before .integer-width .ensures nodes))) }
 
 returns-2 : tie.Need-returns-2
-returns-2 c = λ nodes lists. record { shown = zero-no-bytes _ _ (wide (c .before .before .before .before .before .before .before .before .before .before .args .v) (rw (c .before .before .before .before .width .given .1) at (c .before .before .before .before .before .before .integer-width .ensures nodes lists))) (rw (c .enum-told2 .given .1) at (c .before .before .value-bytes .ensures .is)) }
+returns-2 c = λ nodes. record { shown = zero-no-bytes _ _ (wide (c .before .before .before .before .before .before .before .before .before .before .before .args .v) (rw (c .before .before .before .before .width .given .1) at (c .before .before .before .before .before .before .integer-width .ensures nodes))) (rw (c .enum-told2 .given .1) at (c .before .before .value-bytes .ensures .is)) }
 
 same-length : tie.Need-same-length
 same-length c = search needs
@@ -38,7 +38,7 @@ same-length-2 : tie.Need-same-length-2
 same-length-2 c = search needs
 
 returns-3 : tie.Need-returns-3
-returns-3 c = λ nodes lists. record { shown = zero-does _ _ (wide (c .before .before .before .before .before .before .before .before .before .before .before .before .before .before .before .before .before .before .args .v) (rw (c .before .before .before .before .before .before .before .before .before .before .before .before .width .given .1) at (c .before .before .before .before .before .before .before .before .before .before .before .before .before .before .integer-width .ensures nodes lists))) (rw (c .before .before .before .before .before .before .before .before .b .given .1) at (c .before .before .before .before .before .before .before .before .before .before .value-bytes .ensures .is)) (c .before .before .before .before .not-zero .ensures) }
+returns-3 c = λ nodes. record { shown = zero-does _ _ (wide (c .before .before .before .before .before .before .before .before .before .before .before .before .before .before .before .before .before .before .before .args .v) (rw (c .before .before .before .before .before .before .before .before .before .before .before .before .width .given .1) at (c .before .before .before .before .before .before .before .before .before .before .before .before .before .before .integer-width .ensures nodes))) (rw (c .before .before .before .before .before .before .before .before .b .given .1) at (c .before .before .before .before .before .before .before .before .before .before .value-bytes .ensures .is)) (c .before .before .before .before .not-zero .ensures) }
 
 pub not-zero-spec : {M : Type 1} → statement M
 not-zero-spec =

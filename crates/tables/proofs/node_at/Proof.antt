@@ -1,5 +1,9 @@
--- `tables::node_at` meets its contract: the four cells are the definition's. Assumes nothing.
+-- `tables::node_at` meets its contract: the three cells are the definition's, and the numbers behind TYPE are one less. Assumes nothing.
 use borrow.Author.Needs.{needs}
+use mathlib.Core.Logic.{⊎-elim}
+use mathlib.Core.Path.{_≡_}
+use Prim.Native.Nat.{_-_}
+use native.Mathlib.Omega.{arith}
 use Rattle.tables.specs.Tables.{node-kind-at}
 use Rattle.tables.proofs.node_at.Statement.{statement}
 use Rattle.tables.proofs.node_at.Tie as tie
@@ -13,15 +17,21 @@ cell-requires-2 c κs = search needs
 cell-requires-3 : tie.Need-cell-requires-3
 cell-requires-3 c κs = search needs
 
-cell-requires-4 : tie.Need-cell-requires-4
-cell-requires-4 c κs = search needs
+sub-rest : tie.Need-sub-rest
+sub-rest c = search needs
 
-node-kind-requires : tie.Need-node-kind-requires
-node-kind-requires c κs = search needs
+behind-requires : tie.Need-behind-requires
+behind-requires c κs = search needs
+
+node-in-requires : tie.Need-node-in-requires
+node-in-requires c κs = search needs
 
 returns : tie.Need-returns
 unfolding node-kind-at
-returns c = rw (← c .before .before .before .before .cell .ensures, ← c .before .before .before .cell2 .ensures, ← c .before .before .cell3 .ensures, ← c .before .cell4 .ensures) (c .node-kind .ensures)
+returns c =
+    let b = c .before .before .before in
+    let e : c .before .before .if1 .rest ≡ b .cell3 .result - 1 = ⊎-elim (λ w. omega arith) (λ w. omega arith) (c .before .before .if1 .came) in
+    rw (← b .before .before .cell .ensures, ← b .before .cell2 .ensures, ← b .cell3 .ensures, ← c .before .behind .ensures, ← e) (c .node-in .ensures)
 
 pub node-at-spec : {M : Type 1} → statement M
 node-at-spec =
@@ -30,6 +40,7 @@ node-at-spec =
     cell-requires
     cell-requires-2
     cell-requires-3
-    cell-requires-4
-    node-kind-requires
+    sub-rest
+    behind-requires
+    node-in-requires
     returns)

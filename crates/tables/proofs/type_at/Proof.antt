@@ -13,13 +13,13 @@ cell-requires-2 c κs = search needs
 cell-requires-3 : tie.Need-cell-requires-3
 cell-requires-3 c κs = search needs
 
-type-kind-requires : tie.Need-type-kind-requires
-type-kind-requires c κs = search needs
+type-in-requires : tie.Need-type-in-requires
+type-in-requires c κs = search needs
 
 returns : tie.Need-returns
 unfolding type-kind-at
-returns c = rw (← c .before .before .before .cell .ensures, ← c .before .before .cell2 .ensures, ← c .before .cell3 .ensures) (c .type-kind .ensures)
+returns c = rw (← c .before .before .before .cell .ensures, ← c .before .before .cell2 .ensures, ← c .before .cell3 .ensures) (c .type-in .ensures)
 
 pub type-at-spec : {M : Type 1} → statement M
 type-at-spec =
-    tie.close (tie.spec cell-requires cell-requires-2 cell-requires-3 type-kind-requires returns)
+    tie.close (tie.spec cell-requires cell-requires-2 cell-requires-3 type-in-requires returns)

@@ -4,14 +4,11 @@ use Rattle.tables.proofs.Laws.{nth-placed}
 use Rattle.tables.proofs.variable_at.Statement.{statement}
 use Rattle.tables.proofs.variable_at.Tie as tie
 
-add-placed-row : tie.Need-add-placed-row
-add-placed-row c = search needs
-
 placed-row-requires : tie.Need-placed-row-requires
 placed-row-requires c κs = search needs
 
 returns : tie.Need-returns
-returns c = rw (c .placed-row .ensures) (nth-placed _ _ _ _)
+returns c = rw (c .placed-row .ensures) (nth-placed _ _ _ _ _)
 
 pub variable-at-spec : {M : Type 1} → statement M
-variable-at-spec = tie.close (tie.spec add-placed-row placed-row-requires returns)
+variable-at-spec = tie.close (tie.spec placed-row-requires returns)

@@ -4,27 +4,26 @@ use Rattle.ticket.proofs.adding.add_function.Statement.{statement}
 use Rattle.ticket.proofs.adding.add_function.Tie as tie
 use Rattle.ticket.proofs.adding.add_function.Reads as reads
 use Rattle.ticket.proofs.adding.add_function.Lts as lts
-use Rattle.ticket.proofs.tables.arg.Reads as arg-reads
 
--- src/adding.rt:23:19
+-- src/adding.rt:25:19
 arg-requires : tie.Need-arg-requires
 arg-requires c κs = search needs
 
--- src/adding.rt:24:15
+-- src/adding.rt:26:15
 arg-requires-2 : tie.Need-arg-requires-2
 arg-requires-2 c κs = search needs
 
--- src/adding.rt:31:15
-add-t9 : tie.Need-add-t9
-add-t9 c = search needs
+-- src/adding.rt:33:15
+add-t11 : tie.Need-add-t11
+add-t11 c = search needs
 
--- src/adding.rt:33:16
-add-t10 : tie.Need-add-t10
-add-t10 c = search needs
+-- src/adding.rt:35:16
+add-t12 : tie.Need-add-t12
+add-t12 c = search needs
 
 -- src/adding.rt:17:1
 returns : tie.Need-returns
 returns c = search (adding, needs)
 
 pub add-function-spec : {M : Type 1} → statement M
-add-function-spec = tie.close (tie.spec arg-requires arg-requires-2 add-t9 add-t10 returns)
+add-function-spec = tie.close (tie.spec arg-requires arg-requires-2 add-t11 add-t12 returns)

@@ -6,7 +6,7 @@ use Rattle.ticket.proofs.adding.add_node.Statement.{statement}
 use Rattle.ticket.proofs.adding.add_node.Tie as tie
 use Rattle.ticket.proofs.adding.add_node.Reads as reads
 use Rattle.ticket.proofs.adding.add_node.Lts as lts
-use Rattle.ticket.proofs.tables.put_row.Reads as put-row-reads
+use Rattle.ticket.proofs.rows.put_row.Reads as put-row-reads
 
 -- src/adding.rt:153:19
 add-put-row : tie.Need-add-put-row

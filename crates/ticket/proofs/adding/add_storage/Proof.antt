@@ -4,7 +4,7 @@ use Rattle.ticket.proofs.adding.add_storage.Statement.{statement}
 use Rattle.ticket.proofs.adding.add_storage.Tie as tie
 use Rattle.ticket.proofs.adding.add_storage.Reads as reads
 use Rattle.ticket.proofs.adding.add_storage.Lts as lts
-use Rattle.ticket.proofs.tables.put_row.Reads as put-row-reads
+use Rattle.ticket.proofs.rows.put_row.Reads as put-row-reads
 
 -- src/adding.rt:65:19
 add-put-row : tie.Need-add-put-row

@@ -4,7 +4,7 @@ use Rattle.ticket.proofs.adding.add_type.Statement.{statement}
 use Rattle.ticket.proofs.adding.add_type.Tie as tie
 use Rattle.ticket.proofs.adding.add_type.Reads as reads
 use Rattle.ticket.proofs.adding.add_type.Lts as lts
-use Rattle.ticket.proofs.tables.put_row.Reads as put-row-reads
+use Rattle.ticket.proofs.rows.put_row.Reads as put-row-reads
 
 -- src/adding.rt:43:5
 put-row-requires : tie.Need-put-row-requires

@@ -4,7 +4,7 @@ use Rattle.ticket.proofs.adding.add_variable.Statement.{statement}
 use Rattle.ticket.proofs.adding.add_variable.Tie as tie
 use Rattle.ticket.proofs.adding.add_variable.Reads as reads
 use Rattle.ticket.proofs.adding.add_variable.Lts as lts
-use Rattle.ticket.proofs.tables.put_row.Reads as put-row-reads
+use Rattle.ticket.proofs.rows.put_row.Reads as put-row-reads
 
 -- src/adding.rt:87:19
 add-put-row : tie.Need-add-put-row

@@ -4,7 +4,7 @@ use lib.ListN.{length, drop, getD}
 use borrow.Author.Needs.{needs}
 use mathlib.Core.Path.{refl, sym, _∙_, ap}
 use Rattle.ticket.specs.Classes.{argAt, formArg, argsOf}
-use Rattle.fields.specs.Tab.{tab}
+use Rattle.tables.specs.Tables.{tab}
 use Rattle.spec.specs.Read.{all, in-range}
 use borrow.Author.Tests.{not-true, not-false}
 use Rattle.ticket.proofs.CheckLaws.{all-end, all-not, all-next, args-start}

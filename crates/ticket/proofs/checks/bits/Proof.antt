@@ -5,7 +5,6 @@ use Rattle.ticket.proofs.checks.bits.Tie as tie
 use Rattle.ticket.proofs.checks.bits.Reads as reads
 use Rattle.ticket.proofs.checks.bits.Lts as lts
 use Rattle.ticket.proofs.checks.bit_fit.Reads as bit-fit-reads
-use Rattle.ticket.proofs.tables.arg.Reads as arg-reads
 
 -- src/checks.rt:158:9
 arg-requires : tie.Need-arg-requires

@@ -5,7 +5,7 @@ use borrow.Author.Needs.{needs}
 use mathlib.Core.Path.{refl, sym, _∙_, ap}
 use Rattle.ticket.specs.Classes.{argAt, formArg, argsOf}
 use Prim.Native.Nat.{max}
-use Rattle.fields.specs.Tab.{tab}
+use Rattle.tables.specs.Tables.{tab}
 use Rattle.ticket.proofs.CheckLaws.{deep-start, deep-next, deep-end}
 use Rattle.ticket.specs.Steps.{deepestIn}
 use Rattle.ticket.proofs.checks.deepest.Statement.{statement}

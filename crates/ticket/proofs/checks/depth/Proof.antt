@@ -4,7 +4,6 @@ use Rattle.ticket.proofs.checks.depth.Statement.{statement}
 use Rattle.ticket.proofs.checks.depth.Tie as tie
 use Rattle.ticket.proofs.checks.depth.Reads as reads
 use Rattle.ticket.proofs.checks.depth.Lts as lts
-use Rattle.ticket.proofs.tables.entry.Reads as entry-reads
 
 -- src/checks.rt:234:33
 enum-told : tie.Need-enum-told
@@ -19,8 +18,8 @@ enum-told-3 : tie.Need-enum-told-3
 enum-told-3 c = search needs
 
 -- src/checks.rt:236:28
-entry-requires : tie.Need-entry-requires
-entry-requires c κs = search needs
+cell-requires : tie.Need-cell-requires
+cell-requires c κs = search needs
 
 -- src/checks.rt:237:28
 enum-told-4 : tie.Need-enum-told-4
@@ -35,16 +34,16 @@ enum-told-6 : tie.Need-enum-told-6
 enum-told-6 c = search needs
 
 -- src/checks.rt:239:29
-entry-requires-2 : tie.Need-entry-requires-2
-entry-requires-2 c κs = search needs
+cell-requires-2 : tie.Need-cell-requires-2
+cell-requires-2 c κs = search needs
 
 -- src/checks.rt:240:28
 enum-told-7 : tie.Need-enum-told-7
 enum-told-7 c = search needs
 
 -- src/checks.rt:240:28
-entry-requires-3 : tie.Need-entry-requires-3
-entry-requires-3 c κs = search needs
+cell-requires-3 : tie.Need-cell-requires-3
+cell-requires-3 c κs = search needs
 
 -- src/checks.rt:229:1
 returns : tie.Need-returns
@@ -56,7 +55,7 @@ returns-2 c = rw (c .enum-told2 .given .1)
 
 -- src/checks.rt:229:1
 returns-3 : tie.Need-returns-3
-returns-3 c = rw (c .before .enum-told3 .given .1) (c .entry .ensures)
+returns-3 c = rw (c .before .enum-told3 .given .1) (c .cell .ensures)
 
 -- src/checks.rt:229:1
 returns-4 : tie.Need-returns-4
@@ -68,11 +67,11 @@ returns-5 c = rw (c .enum-told5 .given .1)
 
 -- src/checks.rt:229:1
 returns-6 : tie.Need-returns-6
-returns-6 c = rw (c .before .enum-told6 .given .1) (c .entry2 .ensures)
+returns-6 c = rw (c .before .enum-told6 .given .1) (c .cell2 .ensures)
 
 -- src/checks.rt:229:1
 returns-7 : tie.Need-returns-7
-returns-7 c = rw (c .before .enum-told7 .given .1) (c .entry3 .ensures)
+returns-7 c = rw (c .before .enum-told7 .given .1) (c .cell3 .ensures)
 
 pub depth-spec : {M : Type 1} → statement M
 depth-spec =
@@ -81,13 +80,13 @@ depth-spec =
     enum-told
     enum-told-2
     enum-told-3
-    entry-requires
+    cell-requires
     enum-told-4
     enum-told-5
     enum-told-6
-    entry-requires-2
+    cell-requires-2
     enum-told-7
-    entry-requires-3
+    cell-requires-3
     returns
     returns-2
     returns-3

@@ -5,7 +5,6 @@ use Rattle.ticket.proofs.checks.lengths.Tie as tie
 use Rattle.ticket.proofs.checks.lengths.Reads as reads
 use Rattle.ticket.proofs.checks.lengths.Lts as lts
 use Rattle.ticket.proofs.checks.length_fit.Reads as length-fit-reads
-use Rattle.ticket.proofs.tables.arg.Reads as arg-reads
 
 -- src/checks.rt:149:9
 arg-requires : tie.Need-arg-requires

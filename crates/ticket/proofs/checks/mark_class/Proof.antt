@@ -5,7 +5,7 @@ use Rattle.ticket.proofs.checks.mark_class.Statement.{statement}
 use Rattle.ticket.proofs.checks.mark_class.Tie as tie
 use Rattle.ticket.proofs.checks.mark_class.Reads as reads
 use Rattle.ticket.proofs.checks.mark_class.Lts as lts
-use Rattle.ticket.proofs.tables.mark.Reads as mark-reads
+use Rattle.ticket.proofs.rows.mark.Reads as mark-reads
 
 -- src/checks.rt:277:33
 enum-told : tie.Need-enum-told

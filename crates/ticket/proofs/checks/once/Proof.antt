@@ -6,7 +6,7 @@ use mathlib.Core.Path.{refl, sym, _∙_, ap}
 use Rattle.ticket.specs.Classes.{argAt, formArg, argsOf}
 use native.Mathlib.Omega.{arith}
 use Prim.Native.Nat.{ℕ}
-use Rattle.fields.specs.Tab.{tab}
+use Rattle.tables.specs.Tables.{tab}
 use Rattle.ticket.proofs.CheckLaws.{alike-same, alike-then, once-start, mark-start, once-not, once-next, mark-next, once-end, mark-end}
 use Rattle.ticket.specs.Steps.{Alike}
 use Rattle.ticket.specs.Rows.{usedOf}

@@ -2,9 +2,8 @@ use mathlib.Core.Path.{_≡_}
 use Prim.Native.Nat.{_≤_, _-_, _<_, _+_, _*_, _^_}
 use lib.ListN.{length, drop, getD}
 use borrow.Author.Needs.{needs}
-use Rattle.fields.specs.Tab.{tab, run}
+use Rattle.tables.specs.Tables.{tab, run, type-word-by}
 use Rattle.spec.specs.Read.{alike}
-use Rattle.ticket.specs.Classes.{typeWord}
 use Rattle.ticket.specs.Rows.{section, typeRow, rowAt}
 use Rattle.ticket.proofs.MeasureLaws.{alike-start, alike-here, alike-next, alike-end}
 use Rattle.ticket.proofs.measures.alike.Statement.{statement}
@@ -15,7 +14,7 @@ use Rattle.ticket.proofs.measures.alike_row.Reads as alike-row-reads
 use Rattle.ticket.proofs.measures.type_number.Reads as type-number-reads
 
 abbrev Inv-loop : tie.InvT-loop
-Inv-loop rows lists counts word start n w most k₀ k = (k ≤ most) × (alike (typeWord word) (run lists start n) (section (typeRow lists) rows 0 most) ≡ alike (typeWord word) (run lists start n) (tab (λ i. typeRow lists (rowAt rows (0 + i))) k (most - k)))
+Inv-loop rows lists counts word start n w most k₀ k = (k ≤ most) × (alike (type-word-by word) (run lists start n) (section (typeRow lists) rows 0 most) ≡ alike (type-word-by word) (run lists start n) (tab (λ i. typeRow lists (rowAt rows (0 + i))) k (most - k)))
 
 abbrev μ-loop : tie.MeasureT-loop
 μ-loop rows lists counts word start n w most k₀ k = most - k

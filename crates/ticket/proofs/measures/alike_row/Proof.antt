@@ -7,11 +7,10 @@ use Rattle.ticket.proofs.measures.alike_row.Reads as reads
 use Rattle.ticket.proofs.measures.alike_row.Lts as lts
 use Rattle.ticket.proofs.measures.same_runs.Reads as same-runs-reads
 use Rattle.ticket.proofs.measures.type_number.Reads as type-number-reads
-use Rattle.ticket.proofs.tables.entry.Reads as entry-reads
 
 -- src/measures.rt:49:9
-entry-requires : tie.Need-entry-requires
-entry-requires c κs = search needs
+cell-requires : tie.Need-cell-requires
+cell-requires c κs = search needs
 
 -- src/measures.rt:50:8
 type-number-requires : tie.Need-type-number-requires
@@ -19,32 +18,32 @@ type-number-requires c κs = search needs
 
 -- src/measures.rt:51:9
 returns : tie.Need-returns
-returns c = row-other _ _ _ _ _ _ _ _ (c .before .before .before .before .before .pre .3) (c .before .before .entry .ensures) (c .before .type-number .ensures) (c .if1 .taken)
+returns c = row-other _ _ _ _ _ _ _ _ (c .before .before .before .before .before .pre .3) (c .before .before .cell .ensures) (c .before .type-number .ensures) (c .if1 .taken)
 
 -- src/measures.rt:53:9
-entry-requires-2 : tie.Need-entry-requires-2
-entry-requires-2 c κs = search needs
+cell-requires-2 : tie.Need-cell-requires-2
+cell-requires-2 c κs = search needs
 
 -- src/measures.rt:54:9
-entry-requires-3 : tie.Need-entry-requires-3
-entry-requires-3 c κs = search needs
+cell-requires-3 : tie.Need-cell-requires-3
+cell-requires-3 c κs = search needs
 
 -- src/measures.rt:55:5
 same-runs-requires : tie.Need-same-runs-requires
-same-runs-requires c κs = let e = row-ends (c .before .before .before .before .before .before .before .args .rows .now) (c .before .before .before .before .before .before .before .args .counts) _ _ _ (c .before .before .before .before .before .before .before .pre .1) (c .before .before .before .before .before .before .before .pre .3) (c .before .entry2 .ensures) (c .entry3 .ensures) in (search needs, omega arith)
+same-runs-requires c κs = let e = row-ends (c .before .before .before .before .before .before .before .args .rows .now) (c .before .before .before .before .before .before .before .args .counts) _ _ _ (c .before .before .before .before .before .before .before .pre .1) (c .before .before .before .before .before .before .before .pre .3) (c .before .cell2 .ensures) (c .cell3 .ensures) in (search needs, omega arith)
 
 -- src/measures.rt:45:1
 returns-2 : tie.Need-returns-2
-returns-2 c = row-same _ _ _ _ _ _ _ _ (c .before .before .before .before .before .before .before .before .pre .3) (c .before .before .before .before .before .entry .ensures) (c .before .before .before .before .type-number .ensures) _ _ _ (c .before .before .before .if1 .left) (c .before .before .entry2 .ensures) (c .before .entry3 .ensures) (c .same-runs .ensures)
+returns-2 c = row-same _ _ _ _ _ _ _ _ (c .before .before .before .before .before .before .before .before .pre .3) (c .before .before .before .before .before .cell .ensures) (c .before .before .before .before .type-number .ensures) _ _ _ (c .before .before .before .if1 .left) (c .before .before .cell2 .ensures) (c .before .cell3 .ensures) (c .same-runs .ensures)
 
 pub alike-row-spec : {M : Type 1} → statement M
 alike-row-spec =
     tie.close
     (tie.spec
-    entry-requires
+    cell-requires
     type-number-requires
     returns
-    entry-requires-2
-    entry-requires-3
+    cell-requires-2
+    cell-requires-3
     same-runs-requires
     returns-2)

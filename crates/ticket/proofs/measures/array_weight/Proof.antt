@@ -6,8 +6,6 @@ use Rattle.ticket.proofs.measures.array_weight.Reads as reads
 use Rattle.ticket.proofs.measures.array_weight.Lts as lts
 use Rattle.ticket.proofs.measures.cap_more.Reads as cap-more-reads
 use Rattle.ticket.proofs.measures.cap_product.Reads as cap-product-reads
-use Rattle.ticket.proofs.tables.arg.Reads as arg-reads
-use Rattle.ticket.proofs.tables.entry.Reads as entry-reads
 
 -- src/measures.rt:145:9
 arg-requires : tie.Need-arg-requires
@@ -18,8 +16,8 @@ arg-requires-2 : tie.Need-arg-requires-2
 arg-requires-2 c κs = search needs
 
 -- src/measures.rt:147:9
-entry-requires : tie.Need-entry-requires
-entry-requires c κs = search needs
+cell-requires : tie.Need-cell-requires
+cell-requires c κs = search needs
 
 -- src/measures.rt:148:9
 cap-product-requires : tie.Need-cap-product-requires
@@ -31,7 +29,7 @@ cap-more-requires c κs = search needs
 
 -- src/measures.rt:141:1
 returns : tie.Need-returns
-returns c = rw (← c .before .before .before .before .arg .ensures, ← c .before .before .before .arg2 .ensures, ← c .before .before .entry .ensures) (more-of _ _ (c .before .cap-product .result) (c .cap-more .result) (c .before .cap-product .ensures) (c .cap-more .ensures))
+returns c = rw (← c .before .before .before .before .arg .ensures, ← c .before .before .before .arg2 .ensures, ← c .before .before .cell .ensures) (more-of _ _ (c .before .cap-product .result) (c .cap-more .result) (c .before .cap-product .ensures) (c .cap-more .ensures))
 
 pub array-weight-spec : {M : Type 1} → statement M
 array-weight-spec =
@@ -39,7 +37,7 @@ array-weight-spec =
     (tie.spec
     arg-requires
     arg-requires-2
-    entry-requires
+    cell-requires
     cap-product-requires
     cap-more-requires
     returns)

@@ -3,42 +3,40 @@ use Prim.Native.Nat.{_≤_, _-_, _<_, _+_, _*_, _^_}
 use lib.ListN.{length, drop, getD}
 use borrow.Author.Needs.{needs}
 use Prim.Native.Nat.{ℕ}
-use Rattle.fields.specs.Tab.{run}
+use Rattle.tables.specs.Tables.{run, cell}
 use Rattle.spec.specs.Ticket.{sum}
-use Rattle.ticket.specs.Rows.{entryAt}
 use Rattle.ticket.specs.Steps.{capped}
 use Rattle.ticket.proofs.MeasureLaws.{sum-start, sum-end, sum-over, sum-more}
 use Rattle.ticket.proofs.measures.cap_sum.Statement.{statement}
 use Rattle.ticket.proofs.measures.cap_sum.Tie as tie
 use Rattle.ticket.proofs.measures.cap_sum.Reads as reads
 use Rattle.ticket.proofs.measures.cap_sum.Lts as lts
-use Rattle.ticket.proofs.tables.entry.Reads as entry-reads
 
 abbrev Inv-loop : tie.InvT-loop
-Inv-loop rows lists types start n j other limit total₀ i₀ total i = (i ≤ n) × (total ≤ limit) × (capped limit (sum (λ t. entryAt rows 0 types t j other) (run lists start n)) ≡ capped limit (total + sum (λ t. entryAt rows 0 types t j other) (run lists (start + i) (n - i))))
+Inv-loop rows lists types start n j other limit total₀ i₀ total i = (i ≤ n) × (total ≤ limit) × (capped limit (sum (λ t. cell rows 0 types t j other) (run lists start n)) ≡ capped limit (total + sum (λ t. cell rows 0 types t j other) (run lists (start + i) (n - i))))
 
 abbrev μ-loop : tie.MeasureT-loop
 μ-loop rows lists types start n j other limit total₀ i₀ total i = n - i
 
 -- src/measures.rt:110:5
 loop-holds : tie.Need-loop-holds Inv-loop μ-loop
-loop-holds c = let f : ℕ → ℕ = λ t. entryAt (c .before .before .args .rows .now) 0 (c .before .before .args .types) t (c .before .before .args .j) (c .before .before .args .other) in (search needs, search needs, sum-start f _ _ _ _)
+loop-holds c = let f : ℕ → ℕ = λ t. cell (c .before .before .args .rows .now) 0 (c .before .before .args .types) t (c .before .before .args .j) (c .before .before .args .other) in (search needs, search needs, sum-start f _ _ _ _)
 
 -- src/measures.rt:111:18
 add-at : tie.Need-add-at Inv-loop μ-loop
 add-at c = search needs
 
 -- src/measures.rt:112:39
-mul-entry : tie.Need-mul-entry Inv-loop μ-loop
-mul-entry c = search needs
+mul-cell : tie.Need-mul-cell Inv-loop μ-loop
+mul-cell c = search needs
 
 -- src/measures.rt:112:39
-shared-slice-read-entry : tie.Need-shared-slice-read-entry Inv-loop μ-loop
-shared-slice-read-entry c = search needs
+shared-slice-read-cell : tie.Need-shared-slice-read-cell Inv-loop μ-loop
+shared-slice-read-cell c = search needs
 
 -- src/measures.rt:112:13
-entry-requires : tie.Need-entry-requires Inv-loop μ-loop
-entry-requires c κs = search needs
+cell-requires : tie.Need-cell-requires Inv-loop μ-loop
+cell-requires c κs = search needs
 
 -- src/measures.rt:113:12
 sub-if1 : tie.Need-sub-if1 Inv-loop μ-loop
@@ -46,7 +44,7 @@ sub-if1 c = search needs
 
 -- src/measures.rt:114:13
 returns : tie.Need-returns Inv-loop μ-loop
-returns c = let f : ℕ → ℕ = λ t. entryAt (c .before .before .before .before .before .before .before .args .rows .now) 0 (c .before .before .before .before .before .before .before .args .types) t (c .before .before .before .before .before .before .before .args .j) (c .before .before .before .before .before .before .before .args .other) in sum-over _ f _ _ _ _ _ _ (c .before .before .before .before .loop .inv .2) _ (c .before .before .before .loop-test .taken) (c .before .entry .ensures) (c .if1 .taken)
+returns c = let f : ℕ → ℕ = λ t. cell (c .before .before .before .before .before .before .before .args .rows .now) 0 (c .before .before .before .before .before .before .before .args .types) t (c .before .before .before .before .before .before .before .args .j) (c .before .before .before .before .before .before .before .args .other) in sum-over _ f _ _ _ _ _ _ (c .before .before .before .before .loop .inv .2) _ (c .before .before .before .loop-test .taken) (c .before .cell .ensures) (c .if1 .taken)
 
 -- src/measures.rt:116:9
 add-total : tie.Need-add-total Inv-loop μ-loop
@@ -62,11 +60,11 @@ loop-less c = search needs
 
 -- src/measures.rt:110:5
 loop-again : tie.Need-loop-again Inv-loop μ-loop
-loop-again c = let f : ℕ → ℕ = λ t. entryAt (c .before .before .before .before .before .before .before .args .rows .now) 0 (c .before .before .before .before .before .before .before .args .types) t (c .before .before .before .before .before .before .before .args .j) (c .before .before .before .before .before .before .before .args .other) in (search needs, search needs, sum-more _ f _ _ _ _ _ _ (c .before .before .before .before .loop .inv .2) _ (c .before .before .before .loop-test .taken) (c .before .entry .ensures))
+loop-again c = let f : ℕ → ℕ = λ t. cell (c .before .before .before .before .before .before .before .args .rows .now) 0 (c .before .before .before .before .before .before .before .args .types) t (c .before .before .before .before .before .before .before .args .j) (c .before .before .before .before .before .before .before .args .other) in (search needs, search needs, sum-more _ f _ _ _ _ _ _ (c .before .before .before .before .loop .inv .2) _ (c .before .before .before .loop-test .taken) (c .before .cell .ensures))
 
 -- src/measures.rt:104:1
 returns-2 : tie.Need-returns-2 Inv-loop μ-loop
-returns-2 c = let f : ℕ → ℕ = λ t. entryAt (c .before .before .before .before .args .rows .now) 0 (c .before .before .before .before .args .types) t (c .before .before .before .before .args .j) (c .before .before .before .before .args .other) in sum-end _ f _ _ _ _ _ _ (c .before .loop .inv .2) (c .loop-test .left) (search needs)
+returns-2 c = let f : ℕ → ℕ = λ t. cell (c .before .before .before .before .args .rows .now) 0 (c .before .before .before .before .args .types) t (c .before .before .before .before .args .j) (c .before .before .before .before .args .other) in sum-end _ f _ _ _ _ _ _ (c .before .loop .inv .2) (c .loop-test .left) (search needs)
 
 pub cap-sum-spec : {M : Type 1} → statement M
 cap-sum-spec =
@@ -76,9 +74,9 @@ cap-sum-spec =
     μ-loop
     loop-holds
     add-at
-    mul-entry
-    shared-slice-read-entry
-    entry-requires
+    mul-cell
+    shared-slice-read-cell
+    cell-requires
     sub-if1
     returns
     add-total

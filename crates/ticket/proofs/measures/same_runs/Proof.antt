@@ -3,7 +3,7 @@ use Prim.Native.Nat.{_≤_, _-_, _<_, _+_, _*_, _^_}
 use lib.ListN.{length, drop, getD}
 use borrow.Author.Needs.{needs}
 use Rattle.spec.specs.Text.{same}
-use Rattle.fields.specs.Tab.{run}
+use Rattle.tables.specs.Tables.{run}
 use Rattle.ticket.proofs.MeasureLaws.{runs, runs-more}
 use Rattle.ticket.proofs.measures.same_runs.Statement.{statement}
 use Rattle.ticket.proofs.measures.same_runs.Tie as tie

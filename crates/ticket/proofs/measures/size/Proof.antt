@@ -1,5 +1,5 @@
 use borrow.Author.Needs.{needs}
-use Rattle.ticket.specs.Classes.{typeRule}
+use Rattle.tables.specs.Tables.{type-word-by}
 use lib.Dec.{lit≤}
 use Rattle.ticket.proofs.MeasureLaws.{cap-in, unit-sizes}
 use Rattle.ticket.proofs.measures.size.Statement.{statement}
@@ -10,7 +10,6 @@ use Rattle.ticket.proofs.measures.array_size.Reads as array-size-reads
 use Rattle.ticket.proofs.measures.bits_size.Reads as bits-size-reads
 use Rattle.ticket.proofs.measures.cap.Reads as cap-reads
 use Rattle.ticket.proofs.measures.cap_sum.Reads as cap-sum-reads
-use Rattle.ticket.proofs.tables.arg.Reads as arg-reads
 
 -- src/measures.rt:167:24
 arg-requires : tie.Need-arg-requires
@@ -50,42 +49,42 @@ cap-requires-2 c κs = search needs
 
 -- src/measures.rt:161:1
 returns : tie.Need-returns
-unfolding typeRule
+unfolding type-word-by
 returns c = rw (c .match .keys1) (cap-in _ 1 (lit≤ tt))
 
 -- src/measures.rt:161:1
 returns-2 : tie.Need-returns-2
-unfolding typeRule
+unfolding type-word-by
 returns-2 c = rw (c .before .before .match .keys2, ← c .before .arg .ensures) (c .bits-size .ensures)
 
 -- src/measures.rt:161:1
 returns-3 : tie.Need-returns-3
-unfolding typeRule
+unfolding type-word-by
 returns-3 c = rw (c .before .before .match .keys3, ← c .before .arg2 .ensures) (c .cap .ensures)
 
 -- src/measures.rt:161:1
 returns-4 : tie.Need-returns-4
-unfolding typeRule
+unfolding type-word-by
 returns-4 c = rw (c .match .keys4) (cap-in _ 2 (lit≤ tt))
 
 -- src/measures.rt:161:1
 returns-5 : tie.Need-returns-5
-unfolding typeRule
+unfolding type-word-by
 returns-5 c = rw (c .before .match .keys5) (c .array-size .ensures)
 
 -- src/measures.rt:161:1
 returns-6 : tie.Need-returns-6
-unfolding typeRule
+unfolding type-word-by
 returns-6 c = rw (c .before .match .keys6) (c .cap-sum .ensures)
 
 -- src/measures.rt:161:1
 returns-7 : tie.Need-returns-7
-unfolding typeRule
+unfolding type-word-by
 returns-7 c = rw (c .before .match .keys7) (c .cap-sum2 .ensures)
 
 -- src/measures.rt:161:1
 returns-8 : tie.Need-returns-8
-unfolding typeRule
+unfolding type-word-by
 returns-8 c = rw (c .before .before .match .keys8, ← c .before .arg3 .ensures) (c .cap2 .ensures)
 
 -- src/measures.rt:161:1

@@ -1,6 +1,6 @@
 use borrow.Author.Needs.{needs}
 use Rattle.ticket.proofs.MeasureLaws.{plain-weighs}
-use Rattle.ticket.specs.Classes.{typeRule}
+use Rattle.tables.specs.Tables.{type-word-by}
 use Rattle.ticket.proofs.measures.weight.Statement.{statement}
 use Rattle.ticket.proofs.measures.weight.Tie as tie
 use Rattle.ticket.proofs.measures.weight.Reads as reads
@@ -22,17 +22,17 @@ sum-weight-requires-2 c κs = search needs
 
 -- src/measures.rt:178:1
 returns : tie.Need-returns
-unfolding typeRule
+unfolding type-word-by
 returns c = rw (c .before .match .keys1) (c .array-weight .ensures)
 
 -- src/measures.rt:178:1
 returns-2 : tie.Need-returns-2
-unfolding typeRule
+unfolding type-word-by
 returns-2 c = rw (c .before .match .keys2) (c .sum-weight .ensures)
 
 -- src/measures.rt:178:1
 returns-3 : tie.Need-returns-3
-unfolding typeRule
+unfolding type-word-by
 returns-3 c = rw (c .before .match .keys3) (c .sum-weight2 .ensures)
 
 -- src/measures.rt:178:1

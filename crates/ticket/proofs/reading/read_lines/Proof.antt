@@ -12,7 +12,7 @@ use Rattle.ticket.proofs.reading.read_lines.Statement.{statement}
 use Rattle.ticket.proofs.reading.read_lines.Tie as tie
 use Rattle.ticket.proofs.reading.read_lines.Reads as reads
 use Rattle.ticket.proofs.reading.read_lines.Lts as lts
-use Rattle.ticket.proofs.reading.advance.Reads as advance-reads
+use Rattle.ticket.proofs.reading.line_at.Reads as line-at-reads
 use Rattle.ticket.proofs.reading.finish.Reads as finish-reads
 use Rattle.ticket.proofs.reading.none_read.Reads as none-read-reads
 
@@ -31,8 +31,8 @@ loop-holds : tie.Need-loop-holds Inv-loop μ-loop
 loop-holds c = (refl, refl, c .none-read .ensures .held _, omega (arith, c .none-read .ensures .used), omega (arith, c .none-read .ensures .lines), search needs, lines-begin _ _ _ _ (c .none-read .ensures))
 
 -- src/reading.rt:125:15
-advance-requires : tie.Need-advance-requires Inv-loop μ-loop
-advance-requires c κs = (c .before .before .before .loop .inv .2, omega arith, omega arith, search needs, search needs, search needs, search needs)
+line-at-requires : tie.Need-line-at-requires Inv-loop μ-loop
+line-at-requires c κs = (c .before .before .before .loop .inv .2, omega arith, omega arith, search needs, search needs, search needs, search needs)
 
 -- src/reading.rt:126:30
 enum-known-next : tie.Need-enum-known-next Inv-loop μ-loop
@@ -40,11 +40,11 @@ enum-known-next c = search needs
 
 -- src/reading.rt:124:5
 loop-less : tie.Need-loop-less Inv-loop μ-loop
-loop-less c = let a = ahead-of _ _ _ _ _ _ _ (c .before .before .before .before .before .before .before .advance .result) _ _ (c .before .before .before .before .before .before .before .advance .ensures) (c .before .next .given .1) in omega arith
+loop-less c = let a = ahead-of _ _ _ _ _ _ _ (c .before .before .before .before .before .before .before .line-at .result) _ _ (c .before .before .before .before .before .before .before .line-at .ensures) (c .before .next .given .1) in omega arith
 
 -- src/reading.rt:124:5
 loop-again : tie.Need-loop-again Inv-loop μ-loop
-loop-again c = let a = ahead-of _ _ _ _ _ _ _ (c .before .before .before .before .before .before .before .advance .result) _ _ (c .before .before .before .before .before .before .before .advance .ensures) (c .before .next .given .1) in (search needs, search needs, a .0, a .1, omega arith, a .4, lines-next _ _ _ _ _ _ (c .before .before .before .before .before .before .before .before .before .before .before .loop .inv .6) _ _ (c .before .before .before .before .before .before .before .advance .result) _ _ (c .before .before .before .before .before .before .before .advance .ensures) (c .before .next .given .1))
+loop-again c = let a = ahead-of _ _ _ _ _ _ _ (c .before .before .before .before .before .before .before .line-at .result) _ _ (c .before .before .before .before .before .before .before .line-at .ensures) (c .before .next .given .1) in (search needs, search needs, a .0, a .1, omega arith, a .4, lines-next _ _ _ _ _ _ (c .before .before .before .before .before .before .before .before .before .before .before .loop .inv .6) _ _ (c .before .before .before .before .before .before .before .line-at .result) _ _ (c .before .before .before .before .before .before .before .line-at .ensures) (c .before .next .given .1))
 
 -- src/reading.rt:130:31
 enum-known-n : tie.Need-enum-known-n Inv-loop μ-loop
@@ -64,7 +64,7 @@ same-length-2 c = search needs
 
 -- src/reading.rt:131:17
 returns : tie.Need-returns Inv-loop μ-loop
-returns c = lines-stopped _ _ _ _ _ _ (c .before .before .before .before .before .before .before .before .before .before .before .before .loop .inv .6) _ _ (c .before .before .before .before .before .before .before .before .advance .result) _ (c .before .before .before .before .before .before .before .before .advance .ensures) (c .before .before .n .given .1)
+returns c = lines-stopped _ _ _ _ _ _ (c .before .before .before .before .before .before .before .before .before .before .before .before .loop .inv .6) _ _ (c .before .before .before .before .before .before .before .before .line-at .result) _ (c .before .before .before .before .before .before .before .before .line-at .ensures) (c .before .before .n .given .1)
 
 -- src/reading.rt:135:5
 finish-requires : tie.Need-finish-requires Inv-loop μ-loop
@@ -90,7 +90,7 @@ read-lines-spec =
     μ-loop
     none-read-requires
     loop-holds
-    advance-requires
+    line-at-requires
     enum-known-next
     loop-less
     loop-again

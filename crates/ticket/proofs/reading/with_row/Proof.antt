@@ -5,19 +5,18 @@ use Rattle.ticket.proofs.reading.with_row.Tie as tie
 use Rattle.ticket.proofs.reading.with_row.Reads as reads
 use Rattle.ticket.proofs.reading.with_row.Lts as lts
 use Rattle.ticket.proofs.reading.lesser.Reads as lesser-reads
-use Rattle.ticket.proofs.tables.entry.Reads as entry-reads
 
 -- src/reading.rt:30:8
-entry-requires : tie.Need-entry-requires
-entry-requires c κs = search needs
+cell-requires : tie.Need-cell-requires
+cell-requires c κs = search needs
 
 -- src/reading.rt:31:9
 returns : tie.Need-returns
 returns c = search (row-marked, row-left, needs)
 
 -- src/reading.rt:33:9
-entry-requires-2 : tie.Need-entry-requires-2
-entry-requires-2 c κs = search needs
+cell-requires-2 : tie.Need-cell-requires-2
+cell-requires-2 c κs = search needs
 
 -- src/reading.rt:34:5
 lesser-requires : tie.Need-lesser-requires
@@ -29,4 +28,4 @@ returns-2 c = search (row-marked, row-left, needs)
 
 pub with-row-spec : {M : Type 1} → statement M
 with-row-spec =
-    tie.close (tie.spec entry-requires returns entry-requires-2 lesser-requires returns-2)
+    tie.close (tie.spec cell-requires returns cell-requires-2 lesser-requires returns-2)

@@ -1,0 +1,489 @@
+-- What the runs of the lowering leave, where the listing's sections end, and the listing as its sections one after the other.
+use Prim.Native.Nat.{ℕ, zero, suc, _+_, _-_, _*_, _≤_, _<_}
+use mathlib.Core.Path.{_≡_, refl, sym, ap, subst, _∙_}
+use mathlib.Core.Bool.{Bool, true, false}
+use mathlib.Core.List.{List, [], _∷_, _++_, append-nil, append-assoc}
+use native.Mathlib.Omega.{arith}
+use native.Mathlib.Numerals.{add-one}
+use lib.Dec.{leb}
+use borrow.Author.Tests.{le-leb, lt-leb}
+use lib.ListN.{length, take, drop, getD, replicate, length-append, length-drop, drop-of-length-le}
+use lib.Seq.{sets, sets-eq, length-sets, drop-drop, length-take-le, take-at, take-all}
+use Rattle.spec.specs.Hir.{Expr}
+use Rattle.spec.specs.Ticket.{NodeLine, Tables, exprAt, nowhere}
+use Rattle.spec.specs.Readable.{Readable, line-sum, root}
+use Rattle.spec.specs.Lir.{Value}
+use Rattle.spec.specs.Monad.{Outcome, Out, done, refused}
+use Rattle.spec.specs.Monad as monad
+use Rattle.spec.specs.Lower.{lower-expression, lowered}
+use Rattle.spec.specs.Print.{print-listing, done-line, each, narrowed-line}
+use Rattle.spec.specs.Text.{split, line-feed}
+use Rattle.spec.specs.Read.{read-ticket}
+use Rattle.spec.specs.Read as reading
+use Rattle.spec.specs.Answer.{ascending, accepted, listing-of, fitted, of-lowering, of-reading, answer, left-in}
+use Rattle.spec.specs.Answer as spec-answer
+use Rattle.spec.proofs.CostRoom.{room}
+use Rattle.spec.proofs.ReadingTicket.{readable}
+use Rattle.text.specs.Put.{Put, sat, last, sat-below, sets-append}
+use Rattle.tables.specs.declared.Counts.{Counts}
+use Rattle.tables.specs.Tables.{tab, tables-of, storage-line, node-line, node-type-at, weight-at}
+use Rattle.tables.proofs.Laws.{length-tab, weight-here}
+use Rattle.ticket.specs.declared.ReadAnswer.{ReadAnswer}
+use Rattle.ticket.specs.Answers.{answerOf, Answered}
+use Rattle.values.specs.declared.State.{State}
+use Rattle.values.specs.declared.Value.{Value as Val}
+use Rattle.values.specs.declared.Lowered.{Lowered}
+use Rattle.values.specs.Heads.{root as root-head, parts-of, head-of, Sound-value}
+use Rattle.values.specs.Left.{Bufs, bufs, counters-in, marked, Left, case-value, MeetsValue, DoneValue}
+use Rattle.values.specs.Stack.{heads, stands-left}
+use Rattle.parts.specs.Meets.{left-fits, left-heads}
+use Rattle.reads.specs.Reading.{weight-of}
+use Rattle.printing.specs.Lines.{head-lines}
+use Rattle.printing.specs.Marks.{marks-from, narrowed-lines}
+use Rattle.printing.proofs.Laws.{value-printed, marks-ascending}
+use Rattle.compiler.specs.declared.Answer.{Answer}
+use Rattle.compiler.specs.declared.Sections.{Sections}
+use Rattle.compiler.specs.declared.Measured.{Measured}
+use Rattle.compiler.specs.Shown.{shown, Answers}
+use Rattle.lowering.specs.Rooms.{TreeRoom}
+use Rattle.compiler.specs.Sections.{
+  start-of,
+  all-weights,
+  Ready,
+  storages-text,
+  narrowed-text,
+  code-text,
+  end-text,
+  print-of,
+  end-printed,
+  Printable,
+  Spans,
+  Sectioned,
+  case-measured,
+  Measures,
+  StoragesPut,
+  case-end,
+  CodePut,
+  ListingPut,
+}
+
+-- ---------------------------------------------------------------- tables
+
+module _ (rows nodes lists : List ℕ) (n : Counts) where
+  pub storage-count : length ((tables-of rows nodes lists n) .storages) ≡ n .storages
+  unfolding tables-of
+  storage-count = length-tab (storage-line rows lists n) 0 (n .storages)
+
+  node-count : length ((tables-of rows nodes lists n) .nodes) ≡ n .nodes
+  unfolding tables-of
+  node-count = length-tab (node-line nodes lists n) 0 (n .nodes)
+
+  next-is : (tables-of rows nodes lists n) .next ≡ n .next
+  unfolding tables-of
+  next-is = refl
+
+-- the words from a row on
+pub rest-is : (rows : List ℕ) → take (length rows - 5376) (drop 5376 rows) ≡ drop 5376 rows
+rest-is rows = take-all (length rows - 5376) (drop 5376 rows) (omega (arith, length-drop 5376 rows))
+
+-- no mark is set
+pub zeros : (n i : ℕ) → _≡_ {A = ℕ} (getD (replicate n 0) i 0) 0
+zeros zero i = refl
+zeros (suc n) zero = refl
+zeros (suc n) (suc i) = zeros n i
+
+-- ---------------------------------------------------------------- weights
+
+-- what is left of a sum over a table
+abbrev left-sum : (ℕ → ℕ) → (ℕ → NodeLine) → ℕ → ℕ → ℕ
+left-sum f g n k = line-sum f (tab g k (n - k))
+
+left-more : (f : ℕ → ℕ) (g : ℕ → NodeLine) (n k : ℕ) → k < n → left-sum f g n k ≡ f ((g k) .type) + left-sum f g n (k + 1)
+unfolding line-sum tab
+left-more f g n k h =
+    let e : n - k ≡ suc (n - (k + 1)) = omega arith in
+    ap (λ (z : ℕ). line-sum f (tab g k z)) e ∙ ap (λ (z : ℕ). f ((g k) .type) + line-sum f (tab g z (n - (k + 1)))) (sym (add-one k))
+
+left-none : (f : ℕ → ℕ) (g : ℕ → NodeLine) (n k : ℕ) → n ≤ k → left-sum f g n k ≡ 0
+unfolding line-sum tab
+left-none f g n k h = let e : n - k ≡ 0 = omega arith in ap (λ (z : ℕ). line-sum f (tab g k z)) e
+
+module _ (rows nodes lists : List ℕ) (n : Counts) where
+  -- a sum so far, and what is left of it
+  pub record Summed (sum k : ℕ) : Type 0 where
+    pub is : sum + left-sum (weight-of (tables-of rows nodes lists n)) (node-line nodes lists n) (n .nodes) k ≡ all-weights (tables-of rows nodes lists n)
+
+  pub sum-none : Summed 0 0
+  unfolding tables-of
+  sum-none =
+      let e : n .nodes - 0 ≡ n .nodes = omega arith in
+      let z : (x : ℕ) → 0 + x ≡ x = λ x. omega arith in
+      record { is = z _ ∙ ap (λ (x : ℕ). line-sum (weight-of (tables-of rows nodes lists n)) (tab (node-line nodes lists n) 0 x)) e }
+
+  pub sum-more : {sum k w : ℕ} → Summed sum k → k < n .nodes → w ≡ weight-of (tables-of rows nodes lists n) ((node-line nodes lists n k) .type) → Summed (sum + w) (k + 1)
+  sum-more {sum} {k} {w} s h e =
+      let f = weight-of (tables-of rows nodes lists n) in
+      record { is = omega (arith, s .is, left-more f (node-line nodes lists n) (n .nodes) k h) }
+
+  pub sum-all : {sum k : ℕ} → Summed sum k → n .nodes ≤ k → sum ≡ all-weights (tables-of rows nodes lists n)
+  sum-all {sum} {k} s h = omega (arith, s .is, left-none (weight-of (tables-of rows nodes lists n)) (node-line nodes lists n) (n .nodes) k h)
+
+  -- it stays small
+  pub sum-small : {sum k w : ℕ} → Readable (tables-of rows nodes lists n) → Summed sum k → k < n .nodes → w ≡ weight-of (tables-of rows nodes lists n) ((node-line nodes lists n k) .type) → sum + w ≤ 2048
+  sum-small {sum} {k} {w} r s h e = let z = sum-more s h e in omega (arith, z .is, r .weight-sum)
+
+  pub weight-is : (k : ℕ) {ty w : ℕ} → ty ≡ node-type-at nodes lists n k → w ≡ weight-at rows n ty → w ≡ weight-of (tables-of rows nodes lists n) ((node-line nodes lists n k) .type)
+  unfolding node-line
+  weight-is k {ty} {w} e f = f ∙ sym (weight-here rows nodes lists n ty) ∙ ap (λ (z : ℕ). weight-of (tables-of rows nodes lists n) z) e
+
+-- ---------------------------------------------------------------- the root
+
+root-is : (T : Tables) (n : Counts) → length (T .nodes) ≡ n .nodes → root T ≡ exprAt 64 T (n .nodes - 1)
+unfolding root
+root-is T n e = ap (λ (z : ℕ). exprAt 64 T (z - 1)) e
+
+root-lowered : (T : Tables) (n : Counts) → length (T .storages) ≡ n .storages → T .next ≡ n .next → length (T .nodes) ≡ n .nodes
+    → lower-expression T (exprAt 64 T (n .nodes - 1)) nowhere (counters-in (start-of n)) ≡ lowered T
+unfolding lowered
+root-lowered T n s t e =
+    sym (
+    ap (λ (z : Expr). lower-expression T z nowhere (record { storage = length (T .storages); temporary = T .next })) (root-is T n e)
+    ∙ ap (λ (z : ℕ). lower-expression T (exprAt 64 T (n .nodes - 1)) nowhere (record { storage = z; temporary = T .next })) s
+    ∙ ap (λ (z : ℕ). lower-expression T (exprAt 64 T (n .nodes - 1)) nowhere (record { storage = n .storages; temporary = z })) t)
+
+root-room : (T : Tables) (n : Counts) (stack : List ℕ) → length (T .storages) ≡ n .storages → T .next ≡ n .next → length (T .nodes) ≡ n .nodes
+    → Ready T stack → TreeRoom T (exprAt 64 T (n .nodes - 1)) (start-of n) stack
+root-room T n stack s t e R =
+    let r = R .readable in
+    let m = room T r in
+    let a = r .storage-count in
+    let b = r .next-most in
+    let w = r .once (weight-of T) in
+    let d = R .deep in
+    subst (λ (x : Expr). TreeRoom T x (start-of n) stack) (root-is T n e)
+    (record {
+      room = record { instructions = omega (arith, m .instructions); storage = omega (arith, m .instructions); temporary = omega (arith, m .instructions) };
+      top = omega arith;
+    })
+
+module _ (rows nodes lists : List ℕ) (n : Counts) where
+  pub some-node : {stack : List ℕ} → Ready (tables-of rows nodes lists n) stack → 1 ≤ n .nodes
+  some-node R = let r = R .readable in omega (arith, r .some-node, node-count rows nodes lists n)
+
+  pub root-ready : {stack : List ℕ} {s : State} → s ≡ start-of n → Ready (tables-of rows nodes lists n) stack
+      → Readable (tables-of rows nodes lists n) × TreeRoom (tables-of rows nodes lists n) (exprAt 64 (tables-of rows nodes lists n) (n .nodes - 1)) s stack
+  root-ready {stack} e R =
+      (R .readable, rw e (root-room (tables-of rows nodes lists n) n stack (storage-count rows nodes lists n) (next-is rows nodes lists n) (node-count rows nodes lists n) R))
+
+  pub root-meets : {b : Bufs} {s : State} {b′ : Bufs} {r : Lowered} → s ≡ start-of n
+      → MeetsValue b s (lower-expression (tables-of rows nodes lists n) (exprAt 64 (tables-of rows nodes lists n) (n .nodes - 1)) nowhere (counters-in s)) b′ r
+      → MeetsValue b (start-of n) (lowered (tables-of rows nodes lists n)) b′ r
+  root-meets {b} {s} {b′} {r} e m =
+      let T = tables-of rows nodes lists n in
+      let k : MeetsValue b (start-of n) (lower-expression T (exprAt 64 T (n .nodes - 1)) nowhere (counters-in (start-of n))) b′ r =
+          subst (λ (z : State). MeetsValue b z (lower-expression T (exprAt 64 T (n .nodes - 1)) nowhere (counters-in z)) b′ r) e m in
+      subst (λ (z : Outcome Value). MeetsValue b (start-of n) z b′ r) (root-lowered T n (storage-count rows nodes lists n) (next-is rows nodes lists n) (node-count rows nodes lists n)) k
+
+pub ready-by : {T : Tables} {stack : List ℕ} → Readable T → 8 * all-weights T ≤ length stack → Ready T stack
+ready-by r h = record { readable = r; deep = h }
+
+pub ready-deep : {T : Tables} {stack : List ℕ} → Readable T → 16384 ≤ length stack → Ready T stack
+ready-deep r h = record { readable = r; deep = omega (arith, r .weight-sum) }
+
+-- the stack is as long as it was
+pub ready-kept : {T : Tables} {l l′ : List ℕ} → length l′ ≡ length l → Ready T l → Ready T l′
+ready-kept e R = record { readable = R .readable; deep = omega (arith, R .deep) }
+
+-- ---------------------------------------------------------------- a run that is done
+
+module _ (n : Counts) {b : Bufs} (v : Value) {c : monad.Counters} {o : Out} {b′ : Bufs} (x : Val) {s : State} (l : Left b (start-of n) (parts-of v) c o b′ s) (h : head-of x ≡ root-head v) (g : Sound-value x) where
+  pub printable : Printable n (b′ .stack) x s
+  printable =
+      let z : 0 ≤ length (b .stack) = omega arith in
+      record { sound = g; fits = left-fits l z; stands = stands-left l z; newer = omega (arith, l .appends .storage) }
+
+  pub end-is : end-printed n (b′ .stack) x s ≡ end-text v c o
+  end-is =
+      let z : 0 ≤ length (b .stack) = omega arith in
+      let a = l .appends in
+      let i : s .counters .instructions ≡ length (o .instructions) = omega (arith, a .counted) in
+      let j : s .counters .storage - n .storages ≡ length (o .storages) = omega (arith, a .storage) in
+      let k : s .counters .temporary ≡ c .temporary = ap (λ (y : monad.Counters). y .temporary) (l .numbers) in
+      rw (value-printed x (heads (b′ .stack) 0 (s .top)) v h (left-heads l z), i, j, k)
+
+-- ---------------------------------------------------------------- a part of the buffer that is as long as what is put there
+
+filled : (m x : List ℕ) → length m ≡ length x → sets m 0 x ≡ x
+filled m x e =
+    let a : length m ≤ 0 + length x = omega arith in
+    sets-eq x m 0 (omega arith) ∙ ap (λ (z : List ℕ). x ++ z) (drop-of-length-le m a) ∙ append-nil x
+
+pub front-put : (l x y : List ℕ) (end : ℕ) → end ≤ length l → end ≡ length x → y ≡ sets (take end l) 0 x → y ++ drop end l ≡ sets l 0 x
+front-put l x y end h e f =
+    let t : y ≡ x = f ∙ filled (take end l) x (length-take-le end l h ∙ e) in
+    let z : 0 + length x ≡ end = omega arith in
+    ap (λ (w : List ℕ). w ++ drop end l) t ∙ ap (λ (k : ℕ). x ++ drop k l) (sym z) ∙ sym (sets-eq x l 0 (omega arith))
+
+pub middle-put : (l x y : List ℕ) (from end : ℕ) → from ≤ end → end ≤ length l → end ≡ from + length x → y ≡ sets (take (end - from) (drop from l)) 0 x
+    → take from l ++ (y ++ drop (end - from) (drop from l)) ≡ sets l from x
+middle-put l x y from end h k e f =
+    let d = length-drop from l in
+    let n : end - from ≤ length (drop from l) = omega arith in
+    let t : y ≡ x = f ∙ filled (take (end - from) (drop from l)) x (length-take-le (end - from) (drop from l) n ∙ (omega arith)) in
+    let z : from + (end - from) ≡ from + length x = omega arith in
+    ap (λ (w : List ℕ). take from l ++ (w ++ drop (end - from) (drop from l))) t ∙ ap (λ (w : List ℕ). take from l ++ (x ++ w)) (drop-drop (end - from) from l ∙ ap (λ (i : ℕ). drop i l) z)
+    ∙ sym (append-assoc (take from l) x (drop (from + length x) l)) ∙ sym (sets-eq x l from (omega arith))
+
+-- whichever answer it was
+as-done : {b : Bufs} {s : State} {x : Outcome Value} {b′ : Bufs} {r : Lowered} → MeetsValue b s x b′ r
+    → (v : Value) (c : monad.Counters) (o : Out) → x ≡ done v c o → case-value b s (done v c o) b′ r
+as-done {b} {s} {x} {b′} {r} m v c o e = subst (λ (z : Outcome Value). case-value b s z b′ r) e (m .shown)
+
+module _ (T : Tables) (n : Counts) {code marks stack : List ℕ} {b′ : Bufs} {r : Lowered} (l : List ℕ) (end : ℕ) (h : end ≤ length l) (m : MeetsValue (bufs code (take end l) marks stack) (start-of n) (lowered T) b′ r) where
+  pub storages-put : StoragesPut T end l (b′ .store ++ drop end l)
+  storages-put = record { text = λ v c o e f. front-put l (storages-text o) (b′ .store) end h f (by v c o r (as-done m v c o e)) }
+    where
+      by : (v : Value) (c : monad.Counters) (o : Out) (r : Lowered) → case-value (bufs code (take end l) marks stack) (start-of n) (done v c o) b′ r
+          → b′ .store ≡ sets (take end l) 0 (storages-text o)
+      by v c o (Lowered.Done x s) k = k .2 .appends .stored .text
+      by v c o (Lowered.Refused i j) k = absurd k
+
+module _ (T : Tables) (n : Counts) {store marks stack : List ℕ} {b′ : Bufs} {r : Lowered} (l : List ℕ) (from end : ℕ) (g : from ≤ end) (h : end ≤ length l) (m : MeetsValue (bufs (take (end - from) (drop from l)) store marks stack) (start-of n) (lowered T) b′ r) where
+  pub code-put : CodePut T n from end l (take from l ++ (b′ .code ++ drop (end - from) (drop from l))) (b′ .stack) r
+  code-put =
+      record {
+        text = λ v c o e f. middle-put l (code-text o) (b′ .code) from end g h f (by v c o r (as-done m v c o e));
+        last = λ v c o e. last-by v c o r (as-done m v c o e);
+      }
+    where
+      before : Bufs
+      before = bufs (take (end - from) (drop from l)) store marks stack
+
+      by : (v : Value) (c : monad.Counters) (o : Out) (r : Lowered) → case-value before (start-of n) (done v c o) b′ r → b′ .code ≡ sets (take (end - from) (drop from l)) 0 (code-text o)
+      by v c o (Lowered.Done x s) k = k .2 .appends .coded .text
+      by v c o (Lowered.Refused i j) k = absurd k
+
+      last-by : (v : Value) (c : monad.Counters) (o : Out) (r : Lowered) → case-value before (start-of n) (done v c o) b′ r → case-end n v c o (b′ .stack) r
+      last-by v c o (Lowered.Done x s) k = (printable n v x (k .2) (k .0) (k .1), end-is n v x (k .2) (k .0) (k .1))
+      last-by v c o (Lowered.Refused i j) k = absurd k
+
+-- ---------------------------------------------------------------- measuring
+
+sat-twice : (p q r n : ℕ) → q ≡ sat (0 + n) → r ≡ sat (p + q) → r ≡ sat (p + n)
+unfolding sat
+sat-twice p q r n e f = omega arith
+
+sat-zero : (q n : ℕ) → q ≡ sat (0 + n) → q ≡ sat n
+unfolding sat
+sat-zero q n e = omega arith
+
+pub sectioned : (T : Tables) (n : Counts) {b b′ : Bufs} {x : Val} {s : State} {m : Sections} (d : DoneValue b (start-of n) (lowered T) b′ x s)
+    → length (T .storages) ≡ n .storages → Readable T → 256 ≤ length (b .narrowed) → ((i : ℕ) → getD (b .narrowed) i 0 ≡ 0)
+    → Spans (s .counters .stored) (s .counters .at) (narrowed-lines (marks-from (n .storages) 0 (b′ .narrowed))) (end-printed n (b′ .stack) x s) m
+    → Sectioned T (b′ .narrowed) m
+sectioned T n {b} {b′} {x} {s} {m} d e R h z p =
+    let l = d .left in
+    let k : narrowed-lines (marks-from (n .storages) 0 (b′ .narrowed)) ≡ narrowed-text T (d .out) =
+        ap (λ (y : List ℕ). narrowed-lines (marks-from (n .storages) 0 y)) (l .narrows)
+        ∙ ap narrowed-lines (marks-ascending (n .storages) 0 (b .narrowed) (d .out .narrowed) (omega (arith, R .storage-count)) z)
+        ∙ ap (λ (y : ℕ). narrowed-lines (ascending y 0 (d .out .narrowed))) (sym e) in
+    let t = end-is n (d .v) x l (d .head) (d .sound) in
+    record {
+      value = d .v;
+      counters = counters-in s;
+      out = d .out;
+      is = d .is;
+      marks = ap (λ (y : ℕ). narrowed-lines (marks-from y 0 (b′ .narrowed))) e ∙ k;
+      spans =
+          record {
+            storages = p .storages ∙ sat-zero (s .counters .stored) (length (storages-text (d .out))) (l .appends .stored .next);
+            narrowed = p .narrowed ∙ ap (λ (y : List ℕ). sat (m .storages + length y)) k;
+            code = sat-twice (m .narrowed) (s .counters .at) (m .code) (length (code-text (d .out))) (l .appends .coded .next) (p .code);
+            end = p .end ∙ ap (λ (y : List ℕ). sat (m .code + length y)) t;
+          };
+    }
+
+-- which it was
+pub measured-done : {T : Tables} {l : List ℕ} {r : Measured} {m : Sections} → Measures T l r → r ≡ Measured.Done m → Sectioned T l m
+measured-done {T} {l} k e = subst (λ (z : Measured). case-measured T l z) e (k .shown)
+
+pub measured-refused : {T : Tables} {l : List ℕ} {r : Measured} {n k : ℕ} → Measures T l r → r ≡ Measured.Refused n k → lowered T ≡ refused n k
+measured-refused {T} {l} k e = subst (λ (z : Measured). case-measured T l z) e (k .shown)
+
+-- ---------------------------------------------------------------- where all fits, positions are lengths
+
+pub record Exact (T : Tables) (v : Value) (c : monad.Counters) (o : Out) (m : Sections) : Type 0 where
+  pub storages : m .storages ≡ length (storages-text o)
+  pub narrowed : m .narrowed ≡ m .storages + length (narrowed-text T o)
+  pub code : m .code ≡ m .narrowed + length (code-text o)
+  pub end : m .end ≡ m .code + length (end-text v c o)
+
+-- the listing is its sections
+listing-is : (T : Tables) (v : Value) (c : monad.Counters) (o : Out) → print-of T v c o ≡ storages-text o ++ (narrowed-text T o ++ (code-text o ++ end-text v c o))
+unfolding print-listing listing-of
+listing-is T v c o = simp append-assoc
+
+sat-exact : (p q r : ℕ) → q ≡ sat (p + r) → q < last → (q ≡ p + r) × (p ≤ q)
+unfolding sat
+sat-exact p q r e h = (omega arith, omega arith)
+
+sat-exact-first : (q r : ℕ) → q ≡ sat r → q < last → q ≡ r
+unfolding sat
+sat-exact-first q r e h = omega arith
+
+module _ {T : Tables} {marks : List ℕ} {m : Sections} (S : Sectioned T marks m) where
+  pub exact : m .end < last → Exact T (S .value) (S .counters) (S .out) m
+  exact h =
+      let p = S .spans in
+      let a = sat-exact (m .code) (m .end) (length (end-text (S .value) (S .counters) (S .out))) (p .end) h in
+      let b = sat-exact (m .narrowed) (m .code) (length (code-text (S .out))) (p .code) (omega arith) in
+      let d = sat-exact (m .storages) (m .narrowed) (length (narrowed-text T (S .out))) (p .narrowed) (omega arith) in
+      record { storages = sat-exact-first (m .storages) _ (p .storages) (omega arith); narrowed = d .0; code = b .0; end = a .0 }
+
+  -- a listing that is longer is not measured shorter
+  pub too-long : (room : ℕ) → room < m .end → room < length (print-of T (S .value) (S .counters) (S .out))
+  unfolding sat
+  too-long room h =
+      let p = S .spans in
+      let A = storages-text (S .out) in
+      let N = narrowed-text T (S .out) in
+      let C = code-text (S .out) in
+      let E = end-text (S .value) (S .counters) (S .out) in
+      let e : length (print-of T (S .value) (S .counters) (S .out)) ≡ length A + (length N + (length C + length E)) =
+          ap length (listing-is T (S .value) (S .counters) (S .out)) ∙ length-append A (N ++ (C ++ E)) ∙ rw (length-append N (C ++ E), length-append C E) in
+      omega (arith, p .storages, p .narrowed, p .code, p .end)
+
+  pub listing-length : m .end < last → m .end ≡ length (print-of T (S .value) (S .counters) (S .out))
+  listing-length h =
+      let x = exact h in
+      let A = storages-text (S .out) in
+      let N = narrowed-text T (S .out) in
+      let C = code-text (S .out) in
+      let E = end-text (S .value) (S .counters) (S .out) in
+      let e : length (print-of T (S .value) (S .counters) (S .out)) ≡ length A + (length N + (length C + length E)) =
+          ap length (listing-is T (S .value) (S .counters) (S .out)) ∙ length-append A (N ++ (C ++ E)) ∙ rw (length-append N (C ++ E), length-append C E) in
+      omega (arith, x .storages, x .narrowed, x .code, x .end)
+
+  -- the same of every outcome that the lowering has
+  pub outcome-same : (v : Value) (c : monad.Counters) (o : Out) → lowered T ≡ done v c o → print-of T (S .value) (S .counters) (S .out) ≡ print-of T v c o
+  outcome-same v c o e =
+      let f = S .is in
+      let a : S .value ≡ v = cc in
+      let b : S .counters ≡ c = cc in
+      let d : S .out ≡ o = cc in
+      rw (a, b, d)
+
+-- ---------------------------------------------------------------- writing: one section after another
+
+-- the four sections
+pub sections-put : {T : Tables} {v : Value} {c : monad.Counters} {o : Out} {m : Sections} (l l1 l2 l3 l4 : List ℕ) → Exact T v c o m
+    → l1 ≡ sets l 0 (storages-text o) → l2 ≡ sets l1 (m .storages) (narrowed-text T o) → l3 ≡ sets l2 (m .narrowed) (code-text o) → l4 ≡ sets l3 (m .code) (end-text v c o)
+    → l4 ≡ sets l 0 (print-of T v c o)
+sections-put {T} {v} {c} {o} {m} l l1 l2 l3 l4 x a b d e =
+    let A = storages-text o in
+    let N = narrowed-text T o in
+    let C = code-text o in
+    let E = end-text v c o in
+    let i : 0 + length A ≡ m .storages = omega (arith, x .storages) in
+    let s3 : sets l3 (m .code) E ≡ sets l2 (m .narrowed) (C ++ E) = rw d (rw (x .code) (sym (sets-append l2 (m .narrowed) C E))) in
+    let s2 : sets l2 (m .narrowed) (C ++ E) ≡ sets l1 (m .storages) (N ++ (C ++ E)) = rw b (rw (x .narrowed) (sym (sets-append l1 (m .storages) N (C ++ E)))) in
+    let s1 : sets l1 (m .storages) (N ++ (C ++ E)) ≡ sets l 0 (A ++ (N ++ (C ++ E))) = rw a (rw (← i) (sym (sets-append l 0 A (N ++ (C ++ E))))) in
+    e ∙ s3 ∙ s2 ∙ s1 ∙ ap (λ (z : List ℕ). sets l 0 z) (sym (listing-is T v c o))
+
+module _ {T : Tables} {marks : List ℕ} {m : Sections} (S : Sectioned T marks m) {n : Counts} {l2 l3 stack : List ℕ} {r : Lowered} (k : CodePut T n (m .narrowed) (m .code) l2 l3 stack r) where
+  pub end-ready : {x : Val} {s : State} → r ≡ Lowered.Done x s → Printable n stack x s × (end-printed n stack x s ≡ end-text (S .value) (S .counters) (S .out))
+  end-ready e = subst (λ (z : Lowered). case-end n (S .value) (S .counters) (S .out) stack z) e (k .last (S .value) (S .counters) (S .out) (S .is))
+
+  pub not-refused : {i j : ℕ} → r ≡ Lowered.Refused i j → ⊥
+  not-refused e = subst (λ (z : Lowered). case-end n (S .value) (S .counters) (S .out) stack z) e (k .last (S .value) (S .counters) (S .out) (S .is))
+
+  pub listing-put : {l l1 l4 : List ℕ} {p q : ℕ} {x : Val} {s : State} → m .end < last → length (T .storages) ≡ n .storages
+      → StoragesPut T (m .storages) l l1 → Put l1 (m .storages) (narrowed-lines (marks-from (n .storages) 0 marks)) l2 p
+      → r ≡ Lowered.Done x s → Put l3 (m .code) (end-printed n stack x s) l4 q → ListingPut T l l4
+  listing-put {l} {l1} {l4} {x = x} {s} h f a b e d =
+      let v = S .value in
+      let c = S .counters in
+      let o = S .out in
+      let y = exact S h in
+      let g : narrowed-lines (marks-from (n .storages) 0 marks) ≡ narrowed-text T o = ap (λ (z : ℕ). narrowed-lines (marks-from z 0 marks)) (sym f) ∙ S .marks in
+      let t1 = a .text v c o (S .is) (y .storages) in
+      let t2 = b .text ∙ ap (λ (z : List ℕ). sets l1 (m .storages) z) g in
+      let t3 = k .text v c o (S .is) (y .code) in
+      let t4 = d .text ∙ ap (λ (z : List ℕ). sets l3 (m .code) z) (end-ready e .1) in
+      let w = sections-put l l1 l2 l3 l4 y t1 t2 t3 t4 in
+      record { text = λ v′ c′ o′ i. w ∙ ap (λ (z : List ℕ). sets l 0 z) (outcome-same S v′ c′ o′ i) }
+
+-- ---------------------------------------------------------------- the answer
+
+pub answer-refused : (T : Tables) (room : ℕ) (l : List ℕ) (n k : ℕ) → lowered T ≡ refused n k → Answers (of-lowering T room (lowered T)) l l (Answer.Refused n k)
+unfolding of-lowering left-in
+answer-refused T room l n k e = rw e (record { answer = refl; left = refl; within = tt })
+
+fitted-in : (room : ℕ) (x : List ℕ) → length x ≤ room → fitted room x ≡ accepted x
+unfolding fitted
+fitted-in room x h = by (leb (length x) room) (le-leb (length x) room h)
+  where
+    by : (b : Bool) → b ≡ true → elim b as (λ _. spec-answer.Answer) [ true ↦ accepted x | false ↦ spec-answer.refused 28 0 ] ≡ accepted x
+    by true e = refl
+    by false e = cc
+
+not-fitted : (room : ℕ) (x : List ℕ) → room < length x → fitted room x ≡ spec-answer.refused 28 0
+unfolding fitted
+not-fitted room x h = by (leb (length x) room) (lt-leb (length x) room h)
+  where
+    by : (b : Bool) → b ≡ false → elim b as (λ _. spec-answer.Answer) [ true ↦ accepted x | false ↦ spec-answer.refused 28 0 ] ≡ spec-answer.refused 28 0
+    by true e = cc
+    by false e = refl
+
+of-done : (T : Tables) (room : ℕ) (v : Value) (c : monad.Counters) (o : Out) → lowered T ≡ done v c o → of-lowering T room (lowered T) ≡ fitted room (print-of T v c o)
+unfolding of-lowering
+of-done T room v c o e = rw e
+
+module _ {T : Tables} {marks : List ℕ} {m : Sections} (S : Sectioned T marks m) where
+  pub answer-too-long : (l : List ℕ) → length l < m .end → Answers (of-lowering T (length l) (lowered T)) l l (Answer.Refused 28 0)
+  unfolding left-in
+  answer-too-long l h =
+      let e : of-lowering T (length l) (lowered T) ≡ spec-answer.refused 28 0 = of-done T (length l) (S .value) (S .counters) (S .out) (S .is) ∙ not-fitted (length l) _ (too-long S (length l) h) in
+      rw e (record { answer = refl; left = refl; within = tt })
+
+  pub answer-accepted : (l l′ : List ℕ) → m .end ≤ length l → length l < last → ListingPut T l l′ → Answers (of-lowering T (length l) (lowered T)) l l′ (Answer.Accepted (m .end))
+  unfolding left-in
+  answer-accepted l l′ h k p =
+      let P = print-of T (S .value) (S .counters) (S .out) in
+      let n : m .end ≡ length P = listing-length S (omega arith) in
+      let z : 0 + length P ≡ length P = omega arith in
+      let e : of-lowering T (length l) (lowered T) ≡ accepted P = of-done T (length l) (S .value) (S .counters) (S .out) (S .is) ∙ fitted-in (length l) P (omega arith) in
+      let f : l′ ≡ P ++ drop (length P) l = p .text (S .value) (S .counters) (S .out) (S .is) ∙ sets-eq P l 0 (omega arith) ∙ ap (λ (y : ℕ). P ++ drop y l) z in
+      let t : take (m .end) l′ ≡ P = ap (λ (y : List ℕ). take (m .end) y) f ∙ take-at P (drop (length P) l) (m .end) (sym n) in
+      let q : length l′ ≡ length l = ap length (p .text (S .value) (S .counters) (S .out) (S .is)) ∙ length-sets l 0 P in
+      record { answer = ap accepted t ∙ sym e; left = f ∙ ap (λ (y : spec-answer.Answer). left-in y l) (sym e); within = omega arith }
+
+-- ---------------------------------------------------------------- reading
+
+module _ {o : reading.Read} {t ls : List ℕ} {r : ReadAnswer} (a : Answered o t ls r) where
+  pub read-refused : {n k : ℕ} → r ≡ ReadAnswer.Refused n k → reading.refused n k ≡ o
+  unfolding answerOf
+  read-refused e = rw e at (a .answer)
+
+  pub read-accepted : {c : Counts} → r ≡ ReadAnswer.Accepted c → reading.accepted (tables-of t (drop 5376 t) ls c) ≡ o
+  unfolding answerOf
+  read-accepted e = rw e at (a .answer)
+
+pub answer-unread : (text l : List ℕ) (room n k : ℕ) → reading.refused n k ≡ read-ticket text → Answers (answer text room) l l (Answer.Refused n k)
+unfolding answer of-reading left-in
+answer-unread text l room n k e = rw (← e) (record { answer = refl; left = refl; within = tt })
+
+pub answer-read : (T : Tables) (text : List ℕ) {l l′ : List ℕ} (room : ℕ) {r : Answer} → reading.accepted T ≡ read-ticket text → Answers (of-lowering T room (lowered T)) l l′ r → Answers (answer text room) l l′ r
+unfolding answer of-reading
+answer-read T text room e a = rw (← e) a
+
+pub text-read : (T : Tables) (text : List ℕ) → reading.accepted T ≡ read-ticket text → Readable T
+text-read T text e = readable text T (sym e)
+
+pub text-too-long : (text : List ℕ) → 65536 < length text → reading.refused 1 0 ≡ read-ticket text
+unfolding read-ticket
+text-too-long text h = by (leb (length text) 65536) (lt-leb (length text) 65536 h)
+  where
+    by : (b : Bool) → b ≡ false → reading.refused 1 0 ≡ elim b as (λ _. reading.Read) [ true ↦ reading.read-lines (split line-feed text) reading.start | false ↦ reading.refused 1 0 ]
+    by true e = cc
+    by false e = refl

@@ -1,0 +1,40 @@
+-- `conversions::extended` meets its contract: the instruction, and then mask and reading. Assumes nothing.
+use borrow.Author.Needs.{needs}
+use native.Mathlib.Omega.{arith}
+use Rattle.reads.specs.Reading.{at-of}
+use Rattle.conversions.proofs.Laws.{room-extended, extend-meets}
+use Rattle.conversions.proofs.extended.Statement.{statement}
+use Rattle.conversions.proofs.extended.Tie as tie
+
+destinations-requires : tie.Need-destinations-requires
+destinations-requires c κs = search needs
+
+sign-extend-requires : tie.Need-sign-extend-requires
+sign-extend-requires c κs = search needs
+
+masked-requires : tie.Need-masked-requires
+masked-requires c κs = (c .before .before .before .before .before .before .before .before .before .before .before .before .before .before .before .pre .0, room-extended (c .before .before .before .before .before .before .before .before .before .before .before .before .before .before .before .pre .2) (c .before .before .before .before .before .sign-extend .ensures))
+
+same-length : tie.Need-same-length
+same-length c = search needs
+
+same-length-2 : tie.Need-same-length-2
+same-length-2 c = search needs
+
+same-length-3 : tie.Need-same-length-3
+same-length-3 c = search needs
+
+returns : tie.Need-returns
+returns c = λ n. extend-meets (at-of (c .before .before .before .before .before .before .before .before .before .before .before .before .before .before .before .before .before .before .before .before .before .before .args .h)) n _ (omega (arith, c .before .before .before .before .before .before .before .before .before .before .before .before .before .before .before .before .before .before .before .before .before .before .good .1 .1 .1 .1 .1 .0)) (omega (arith, c .before .before .before .before .before .before .before .before .before .before .before .before .before .before .before .before .before .before .before .before .before .before .good .1 .1 .1 .1 .1 .1 .1 .0)) _ (c .before .before .before .before .before .before .before .before .before .before .before .before .before .before .before .before .before .before .before .before .before .before .args .id) _ (c .before .before .before .before .before .before .before .before .before .before .before .before .before .before .destinations .ensures) (c .before .before .before .before .before .before .before .before .before .before .before .before .sign-extend .ensures) (c .before .before .before .before .before .before .masked .ensures n)
+
+pub extended-spec : {M : Type 1} → statement M
+extended-spec =
+    tie.close
+    (tie.spec
+    destinations-requires
+    sign-extend-requires
+    masked-requires
+    same-length
+    same-length-2
+    same-length-3
+    returns)

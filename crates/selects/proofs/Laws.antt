@@ -1,0 +1,311 @@
+-- What the pieces of a select leave, and a select of them. Assumes nothing.
+use mathlib.Core.Path.{_≡_, refl, sym, subst, _∙_}
+use mathlib.Core.Bool.{Bool, true, false}
+use mathlib.Core.List.{List, [], _∷_, _++_, map, append-nil}
+use mathlib.Core.Option.{Option, none, some}
+use Prim.Native.Nat.{ℕ, zero, suc, _+_, _-_, _≤_}
+use native.Mathlib.Omega.{arith}
+use native.Mathlib.Numerals.{add-one}
+use lib.Dec.{eqb}
+use lib.ListN.{length, take}
+use borrow.Author.Tests.{eq-eqb, ne-eqb}
+use Rattle.spec.specs.Hir.{At}
+use Rattle.spec.specs.Lir.{BitOperand, ValueOperand, InstructionKind, ValueStorage, byte-storage}
+use Rattle.spec.specs.Ticket.{Tables}
+use Rattle.spec.specs.Readable.{Readable}
+use Rattle.spec.specs.Monad.{Lower, Outcome, done, refused, nothing, prepend, _>>=_, _>>_, or-refuse, require, emits}
+use Rattle.spec.specs.Monad as monad
+use Rattle.spec.specs.Allocation.{Location, type-size, allocate-temporary, bytes-from, bytes-at, location-value-storages}
+use Rattle.spec.specs.ReadBytes.{read-location}
+use Rattle.spec.specs.Select.{select-piece, select-pieces}
+use Rattle.text.specs.Put.{last}
+use Rattle.lir.specs.Abstract.{tab}
+use Rattle.emission.specs.declared.Counters.{Counters}
+use Rattle.emission.specs.declared.Allocated.{Allocated}
+use Rattle.emission.specs.declared.Emitted.{Emitted}
+use Rattle.emission.specs.declared.Temporary.{Temporary}
+use Rattle.emission.specs.Appends.{texts, counters-of, append-none, room-less}
+use Rattle.emission.specs.Emits.{Emits, Allocates, room-allocated}
+use Rattle.emission.specs.Does.{Does, Refuses, MeetsCode, meets-by, out, does-next, does-more, does-emits, does-allocate, room-done}
+use Rattle.emission.specs.Temporaries.{location, temporary-by, MeetsTemporary}
+use Rattle.values.specs.declared.State.{State}
+use Rattle.values.specs.declared.Value.{Value as Val}
+use Rattle.values.specs.declared.Lowered.{Lowered}
+use Rattle.values.specs.Heads.{head-of, operands-of}
+use Rattle.values.specs.Left.{Bufs, bufs, counters-in, marked, values-words, Left, MeetsValue}
+use Rattle.values.specs.Laws.{drop-meets}
+use Rattle.values.specs.Stack.{heads, selects}
+use Rattle.parts.specs.declared.Operand.{Operand}
+use Rattle.parts.specs.declared.Cursor.{Cursor}
+use Rattle.parts.specs.declared.Next.{Next}
+use Rattle.parts.specs.Operands.{operand-of, before-first, left-operands, left-first, Ready, case-next, Nexts}
+use Rattle.reads.specs.Reading.{size-of, TypeRoom, StepRoom}
+use Rattle.selects.specs.declared.Step.{Step}
+use Rattle.selects.specs.Selecting.{target, target-count, targets, FillRoom, fills, fills-and-reads, piece-by, MeetsPiece, pieces, Advances, step-by, MeetsStep}
+
+prepend-nothing : {A : Type 0} (o : Outcome A) → prepend nothing o ≡ o
+prepend-nothing (refused n l) = refl
+prepend-nothing (done a c p) = refl
+
+-- ---------------------------------------------------------------- one piece
+
+-- the instruction of a piece
+record Made (l : List ℕ) (c : Counters) (o : Option InstructionKind) (l1 : List ℕ) (c1 : Counters) : Type 0 where
+  pub kind : InstructionKind
+  pub is : o ≡ some kind
+  pub emits : Emits l c (kind ∷ []) l1 c1
+
+piece-made : {l l1 : List ℕ} {c c1 : Counters} {o : Option InstructionKind} {r : Emitted} → MeetsPiece l c o l1 r → r ≡ Emitted.Done c1 → Made l c o l1 c1
+piece-made {l} {l1} {c} {c1} {o} p e = go o (subst (λ (z : Emitted). piece-by l c o l1 z) e (p .shown))
+  where
+    go : (o : Option InstructionKind) → piece-by l c o l1 (Emitted.Done c1) → Made l c o l1 c1
+    go none h = absurd h
+    go (some k) h = record { kind = k; is = refl; emits = h }
+
+piece-none : {l l1 : List ℕ} {c : Counters} {o : Option InstructionKind} {r : Emitted} {n : ℕ} → MeetsPiece l c o l1 r → r ≡ Emitted.Refused n → (o ≡ none) × (n ≡ 24)
+piece-none {l} {l1} {c} {o} {r} {n} p e = go o (subst (λ (z : Emitted). piece-by l c o l1 z) e (p .shown))
+  where
+    go : (o : Option InstructionKind) → piece-by l c o l1 (Emitted.Refused n) → (o ≡ none) × (n ≡ 24)
+    go none h = (refl, h)
+    go (some k) h = absurd h
+
+module _ (q : BitOperand) (d : ValueStorage) (x y : ValueOperand) (ds : List ValueStorage) (ts fs : List ValueOperand) (h : At) (m : monad.Counters) where
+  pieces-stop : select-piece q d x y ≡ none → select-pieces q (d ∷ ds) (x ∷ ts) (y ∷ fs) h m ≡ refused 24 (h .line)
+  unfolding select-pieces or-refuse _>>=_
+  pieces-stop e = rw e
+
+  pieces-go : (k : InstructionKind) → select-piece q d x y ≡ some k → select-pieces q (d ∷ ds) (x ∷ ts) (y ∷ fs) h m ≡ prepend (out [] (k ∷ []) h) (select-pieces q ds ts fs h m)
+  unfolding select-pieces or-refuse _>>=_ _>>_
+  pieces-go k e = rw e (prepend-nothing (prepend (out [] (k ∷ []) h) (select-pieces q ds ts fs h m)))
+
+over : {stack : List ℕ} {end : ℕ} {t : Cursor} {r : Next} → Nexts stack end t r → r ≡ Next.Over → left-operands stack end t ≡ []
+over {stack} {end} {t} n e = subst (λ (z : Next). case-next stack end (left-operands stack end t) z) e (n .shown)
+
+more : {stack : List ℕ} {end : ℕ} {t t1 : Cursor} {x : Operand} {r : Next} → Nexts stack end t r → r ≡ Next.More x t1
+    → (left-operands stack end t ≡ operand-of x ∷ left-operands stack end t1) × Ready stack end t1
+more {stack} {end} {t} n e = subst (λ (z : Next). case-next stack end (left-operands stack end t) z) e (n .shown)
+
+module _ {stack : List ℕ} {middle end : ℕ} {t f : Cursor} (q : BitOperand) (d : ValueStorage) {r : Next} (n : Nexts stack middle t r) {l : List ℕ} {c : Counters} where
+  pub first-over : r ≡ Next.Over → MeetsStep stack middle end q d t f l c l Step.Over
+  unfolding select-pieces
+  first-over e = let k = over n e in record { shown = (refl, λ ds h m. rw k) }
+
+  module _ {x : Operand} {t1 : Cursor} (e : r ≡ Next.More x t1) {r2 : Next} (n2 : Nexts stack end f r2) where
+    pub second-over : r2 ≡ Next.Over → MeetsStep stack middle end q d t f l c l Step.Over
+    unfolding select-pieces
+    second-over e2 = let k = more n e in let k2 = over n2 e2 in record { shown = (refl, λ ds h m. rw (k .0, k2)) }
+
+    module _ {y : Operand} {f1 : Cursor} (e2 : r2 ≡ Next.More y f1) {l1 : List ℕ} {r3 : Emitted} (p : MeetsPiece l c (select-piece q d (operand-of x) (operand-of y)) l1 r3) where
+      pub piece-refused : {i : ℕ} → r3 ≡ Emitted.Refused i → MeetsStep stack middle end q d t f l c l1 (Step.Refused i)
+      piece-refused {i} e3 =
+          let k = more n e in
+          let k2 = more n2 e2 in
+          let o = piece-none p e3 in
+          record { shown = λ ds h m. rw (k .0, k2 .0, o .1) (pieces-stop q d _ _ ds _ _ h m (o .0)) }
+
+      pub piece-more : {c1 : Counters} → r3 ≡ Emitted.Done c1 → MeetsStep stack middle end q d t f l c l1 (Step.More c1 t1 f1)
+      piece-more {c1} e3 =
+          let k = more n e in
+          let k2 = more n2 e2 in
+          let o = piece-made p e3 in
+          record {
+            shown = record {
+              kind = o .kind;
+              emits = o .emits;
+              is = λ ds h m. rw (k .0, k2 .0) (pieces-go q d _ _ ds _ _ h m (o .kind) (o .is));
+              first = k .1;
+              second = k2 .1;
+            };
+          }
+
+-- ---------------------------------------------------------------- steps that append to the code alone
+
+module _ {n : ℕ} {l : List ℕ} {c : Counters} {m : Lower Unit} where
+  pub code-none : length l ≤ last → c .at ≤ last → c .stored ≤ last → ((h : At) (d : monad.Counters) → m h d ≡ done tt d nothing) → MeetsCode n l c m l (Emitted.Done c)
+  code-none x y z e =
+      record {
+        shown = λ s p. record {
+          shown = record {
+            storages = [];
+            kinds = [];
+            is = λ h. e h (counters-of c);
+            appends = λ h. append-none (record { code = x; store = p; at = y; stored = z });
+            few-storages = omega arith;
+            few-kinds = omega arith;
+          };
+        };
+      }
+
+  pub code-refused : {l1 : List ℕ} {k : ℕ} → ((h : At) (d : monad.Counters) → m h d ≡ refused k (h .line)) → MeetsCode n l c m l1 (Emitted.Refused k)
+  code-refused e = record { shown = λ s p. record { shown = record { is = λ h. e h (counters-of c) } } }
+
+  -- the same of a step that answers the same
+  pub code-same : {k : ℕ} {l1 : List ℕ} {r : Emitted} {m1 : Lower Unit} → k ≤ n → ((h : At) (d : monad.Counters) → m h d ≡ m1 h d) → MeetsCode k l c m1 l1 r → MeetsCode n l c m l1 r
+  code-same {k} {l1} {r} {m1} f e w = record { shown = λ s p. record { shown = go s r (w .shown s p .shown) } }
+    where
+      go : (s : List ℕ) (r : Emitted) → meets-by k (texts l s) c m1 (texts l1 s) r → meets-by n (texts l s) c m (texts l1 s) r
+      go s (Emitted.Done c1) x =
+          does-more f
+          (record {
+            storages = x .storages;
+            kinds = x .kinds;
+            is = λ h. e h (counters-of c) ∙ x .is h;
+            appends = x .appends;
+            few-storages = x .few-storages;
+            few-kinds = x .few-kinds;
+          })
+      go s (Emitted.Refused i) x = record { is = λ h. e h (counters-of c) ∙ x .is h }
+
+-- an instruction, and then a step
+pub code-more : {k : ℕ} {l l1 l2 : List ℕ} {c c1 : Counters} {i : InstructionKind} {m : Lower Unit} {r : Emitted}
+    → c .stored ≤ last → Emits l c (i ∷ []) l1 c1 → MeetsCode k l1 c1 m l2 r → MeetsCode (1 + k) l c (emits (i ∷ []) >> m) l2 r
+unfolding _>>_
+code-more {k} {l} {l1} {l2} {c} {c1} {i} {m} {r} b e w = record { shown = λ s p. record { shown = go s p r (w .shown s p .shown) } }
+  where
+    go : (s : List ℕ) → length s ≤ last → (r : Emitted) → meets-by k (texts l1 s) c1 m (texts l2 s) r → meets-by (1 + k) (texts l s) c (emits (i ∷ []) >> m) (texts l2 s) r
+    go s p (Emitted.Done c2) x = does-next (does-emits {n = 1} s p b (omega arith) e) x
+    go s p (Emitted.Refused j) x = record { is = λ h. rw (rw (e .storage, e .temporary) at (x .is h)) }
+
+-- ---------------------------------------------------------------- all pieces
+
+tab-first : {A : Type 0} (g : ℕ → A) (i n : ℕ) → (n ≡ 0 → ⊥) → tab g i n ≡ g i ∷ tab g (i + 1) (n - 1)
+unfolding tab
+tab-first g i zero h = absurd (h refl)
+tab-first g i (suc n) h = let e : suc n - 1 ≡ n = omega arith in rw (add-one, e)
+
+pub pieces-none : (q : BitOperand) (g : ℕ → ValueStorage) (i n : ℕ) (ts fs : List ValueOperand) {l : List ℕ} {c : Counters}
+    → n ≡ 0 → length l ≤ last → c .at ≤ last → c .stored ≤ last → MeetsCode n l c (select-pieces q (tab g i n) ts fs) l (Emitted.Done c)
+unfolding tab select-pieces
+pieces-none q g i n ts fs e x y z = code-none x y z (λ h d. rw e)
+
+module _ {stack : List ℕ} {middle end : ℕ} {t f : Cursor} (q : BitOperand) (g : ℕ → ValueStorage) (i n : ℕ) {l : List ℕ} {c : Counters} (h : n ≡ 0 → ⊥) {l1 : List ℕ} {r : Step} (w : MeetsStep stack middle end q (g i) t f l c l1 r) where
+  pub pieces-over : r ≡ Step.Over → length l ≤ last → c .at ≤ last → c .stored ≤ last → MeetsCode n l c (pieces stack middle end q (tab g i n) t f) l1 (Emitted.Done c)
+  pieces-over e x y z =
+      let k = subst (λ (a : Step). step-by stack middle end q (g i) t f l c l1 a) e (w .shown) in
+      rw (k .0) (code-none x y z (λ a d. rw (tab-first g i n h) (k .1 (tab g (i + 1) (n - 1)) a d)))
+
+  pub pieces-refused : {j : ℕ} {l2 : List ℕ} → r ≡ Step.Refused j → MeetsCode n l c (pieces stack middle end q (tab g i n) t f) l2 (Emitted.Refused j)
+  pieces-refused e =
+      let k = subst (λ (a : Step). step-by stack middle end q (g i) t f l c l1 a) e (w .shown) in
+      code-refused (λ a d. rw (tab-first g i n h) (k (tab g (i + 1) (n - 1)) a d))
+
+  module _ {c1 : Counters} {t1 f1 : Cursor} (e : r ≡ Step.More c1 t1 f1) where
+    pub step-more : Advances stack middle end q (g i) t f l c l1 c1 t1 f1
+    step-more = subst (λ (a : Step). step-by stack middle end q (g i) t f l c l1 a) e (w .shown)
+
+    pub pieces-more : {l2 : List ℕ} {x : Emitted} → c .stored ≤ last → MeetsCode (n - 1) l1 c1 (pieces stack middle end q (tab g (i + 1) (n - 1)) t1 f1) l2 x → MeetsCode n l c (pieces stack middle end q (tab g i n) t f) l2 x
+    unfolding _>>_
+    pieces-more b v =
+        let k = step-more in
+        code-same (omega arith) (λ a d. rw (tab-first g i n h) (k .is (tab g (i + 1) (n - 1)) a d)) (code-more b (k .emits) v)
+
+-- ---------------------------------------------------------------- into a location
+
+module _ (q : BitOperand) (a b ty : ℕ) (ts fs : List ValueOperand) (ds : List ValueStorage) {n : ℕ} {l l1 : List ℕ} {c : Counters} where
+  pub types-differ : (a ≡ b → ⊥) → MeetsCode n l c (fills q a ts b fs ty ds) l1 (Emitted.Refused 22)
+  unfolding fills require _>>_
+  types-differ e = code-refused (λ h d. rw (ne-eqb a b e))
+
+  pub type-differs : a ≡ b → (a ≡ ty → ⊥) → MeetsCode n l c (fills q a ts b fs ty ds) l1 (Emitted.Refused 22)
+  unfolding fills require _>>_
+  type-differs e k = code-refused (λ h d. rw (eq-eqb a b e, ne-eqb a ty k))
+
+  pub types-same : {k : ℕ} {r : Emitted} → a ≡ b → a ≡ ty → k ≤ n → MeetsCode k l c (select-pieces q ds ts fs) l1 r → MeetsCode n l c (fills q a ts b fs ty ds) l1 r
+  unfolding fills require _>>_
+  types-same e f g w = code-same g (λ h d. rw (eq-eqb a b e, eq-eqb a ty f) (prepend-nothing (select-pieces q ds ts fs h d))) w
+
+pub count-few : (b : Bool) (n : ℕ) → n ≤ 1024 → target-count b n ≤ 1024
+count-few true n h = omega arith
+count-few false n h = h
+
+-- the pieces of both values, from their first operands on
+pub pieces-all : (q : BitOperand) (t f : Val) (ty size s : ℕ) (stack : List ℕ) (end : ℕ) {top middle n : ℕ} {a b : Cursor} {l l1 : List ℕ} {c : Counters} {r : Emitted}
+    → t .ty ≡ f .ty → t .ty ≡ ty → size ≤ 1024 → a ≡ before-first t top → b ≡ before-first f middle → n ≡ target-count (eqb ty 0) size
+    → MeetsCode n l c (pieces stack middle end q (tab (target s (eqb ty 0)) 0 n) a b) l1 r
+    → MeetsCode 1024 l c (fills q (t .ty) (operands-of (head-of t ∷ heads stack top middle)) (f .ty) (operands-of (head-of f ∷ heads stack middle end)) ty (targets s ty size)) l1 r
+unfolding targets
+pieces-all q t f ty size s stack end {top} {middle} x y z e g k w =
+    types-same q (t .ty) (f .ty) ty _ _ _ x y (count-few (eqb ty 0) size z) (rw (e, g, k, left-first stack top middle t, left-first stack middle end f) at w)
+
+targets-bytes : (s o n : ℕ) → tab (target s false) o n ≡ map byte-storage (bytes-from s o n)
+unfolding tab bytes-from
+targets-bytes s o zero = refl
+targets-bytes s o (suc n) = rw (targets-bytes s (suc o) n)
+
+pub targets-here : (T : Tables) (s ty n : ℕ) → size-of T ty ≡ n → targets s ty n ≡ location-value-storages T (location s ty)
+unfolding targets tab location-value-storages bytes-at type-size
+targets-here T s ty n e = go (eqb ty 0)
+  where
+    go : (b : Bool) → tab (target s b) 0 (target-count b n) ≡ location-value-storages T (record { storage = s; offset = 0; ty = ty; is-bit = b })
+    go true = refl
+    go false = rw e (targets-bytes s 0 n)
+
+-- ---------------------------------------------------------------- select
+
+-- what a step has done that leaves no records
+left-does : {A : Type 0} {k : ℕ} {code store code′ store′ : List ℕ} {s : State} {m : Lower A} {a : A} {c1 : Counters} (n stack : List ℕ) (h : At)
+    (d : Does k (texts code store) (s .counters) m a (texts code′ store′) c1)
+    → Left (bufs code store n stack) s [] (counters-of c1) (out (d .storages) (d .kinds) h) (bufs code′ store′ n stack) (record { counters = c1; top = s .top })
+unfolding marked values-words
+left-does {s = s} n stack h d =
+    record {
+      appends = d .appends h;
+      numbers = refl;
+      narrows = refl;
+      parts = [];
+      shows = refl;
+      sound = tt;
+      topped = omega arith;
+      stacked = sym (append-nil (take (s .top) stack));
+      long = refl;
+    }
+
+code-done : {n : ℕ} {l l1 : List ℕ} {c c1 : Counters} {m : Lower Unit} {r : Emitted} (s : List ℕ) → length s ≤ last → MeetsCode n l c m l1 r → r ≡ Emitted.Done c1 → Does n (texts l s) c m tt (texts l1 s) c1
+code-done {n} {l} {l1} {c} {c1} {m} s p w e = subst (λ (z : Emitted). meets-by n (texts l s) c m (texts l1 s) z) e (w .shown s p .shown)
+
+code-stopped : {n k : ℕ} {l l1 : List ℕ} {c : Counters} {m : Lower Unit} {r : Emitted} (s : List ℕ) → length s ≤ last → MeetsCode n l c m l1 r → r ≡ Emitted.Refused k → Refuses c m k
+code-stopped {n} {k} {l} {l1} {c} {m} s p w e = subst (λ (z : Emitted). meets-by n (texts l s) c m (texts l1 s) z) e (w .shown s p .shown)
+
+module _ (T : Tables) (q : BitOperand) (a b id ty : ℕ) (ts fs : List ValueOperand) (s : State) {code code1 : List ℕ} (store : List ℕ) {r : Emitted} (size : ℕ) (z : size-of T ty ≡ size) (p : length store ≤ last)
+    (w : MeetsCode 1024 code (s .counters) (fills q a ts b fs ty (targets id ty size)) code1 r) (h : At) where
+  pub fill-refused : {k : ℕ} {b0 b1 : Bufs} → r ≡ Emitted.Refused k → MeetsValue b0 s (fills-and-reads T q a ts b fs (location id ty) h (counters-in s)) b1 (Lowered.Refused k (h .line))
+  unfolding fills-and-reads _>>_
+  fill-refused e = rw (← (targets-here T id ty size z), code-stopped store p w e .is h) (record { shown = (refl, refl) })
+
+  module _ {c1 : Counters} (e : r ≡ Emitted.Done c1) where
+    pub fill-room : {stack stack1 : List ℕ} → Readable T → FillRoom T ty size s stack → length stack1 ≡ length stack → TypeRoom T ty 0 (record { counters = c1; top = s .top }) stack1
+    fill-room R f g =
+        let d = code-done store p w e in
+        record { room = room-less (omega (arith, R .types .size-most ty)) (room-done {n = 1024} {k = 3071} (room-less (omega arith) (f .room)) d); top = omega (arith, f .top); reach = omega (arith, R .types .size-most ty) }
+
+    pub fill-meets : {n stack : List ℕ} {b1 : Bufs} {x : Lowered} → s .top ≤ length stack
+        → MeetsValue (bufs code1 store n stack) (record { counters = c1; top = s .top }) (read-location T (location id ty) h (counters-of c1)) b1 x
+        → MeetsValue (bufs code store n stack) s (fills-and-reads T q a ts b fs (location id ty) h (counters-in s)) b1 x
+    unfolding fills-and-reads _>>_
+    fill-meets {n} {stack} g m =
+        let d = code-done store p w e in
+        rw (← (targets-here T id ty size z), d .is h) (drop-meets (left-does {s = s} n stack h d) g m)
+
+temporary-here : {m : Lower Location} {ty : ℕ} {c : Counters} {store store1 : List ℕ} {r : Temporary} {new : Allocated} → MeetsTemporary store c m ty store1 r → r ≡ Temporary.Placed new
+    → Allocates store c m (location (new .id .0) ty) store1 (new .counters)
+temporary-here {m} {ty} {c} {store} {store1} w e = subst (λ (z : Temporary). temporary-by store c m ty store1 z) e (w .shown)
+
+-- the room behind the temporary
+pub temporary-room : {T : Tables} {ty size : ℕ} {s : State} {store store1 stack : List ℕ} {r : Temporary} {new : Allocated} → MeetsTemporary store (s .counters) (allocate-temporary T ty) ty store1 r → r ≡ Temporary.Placed new
+    → StepRoom T ty s stack → size-of T ty ≡ size → FillRoom T ty size (record { counters = new .counters; top = s .top }) stack
+temporary-room w e f z = record { room = room-allocated {n = 4095} (f .room) (temporary-here w e); top = f .top; sized = z }
+
+module _ (T : Tables) (q : BitOperand) (a b ty : ℕ) (ts fs : List ValueOperand) (s : State) {store store1 : List ℕ} {r : Temporary} (w : MeetsTemporary store (s .counters) (allocate-temporary T ty) ty store1 r) (h : At) where
+  pub select-refused : {k : ℕ} {b0 b1 : Bufs} → r ≡ Temporary.Refused k → MeetsValue b0 s (selects T q a ts b fs ty h (counters-in s)) b1 (Lowered.Refused k (h .line))
+  unfolding selects _>>=_
+  select-refused e =
+      let k = subst (λ (z : Temporary). temporary-by store (s .counters) (allocate-temporary T ty) ty store1 z) e (w .shown) in
+      rw (k .is h) (record { shown = (refl, refl) })
+
+  pub select-meets : {new : Allocated} {code n stack : List ℕ} {b1 : Bufs} {x : Lowered} → r ≡ Temporary.Placed new → length code ≤ last → s .counters .at ≤ last → s .top ≤ length stack
+      → MeetsValue (bufs code store1 n stack) (record { counters = new .counters; top = s .top }) (fills-and-reads T q a ts b fs (location (new .id .0) ty) h (counters-of (new .counters))) b1 x
+      → MeetsValue (bufs code store n stack) s (selects T q a ts b fs ty h (counters-in s)) b1 x
+  unfolding selects fills-and-reads fills _>>=_
+  select-meets {new} {code} {n} {stack} e y z g m =
+      let d = does-allocate code y z (temporary-here w e) in
+      rw (d .is h) (drop-meets (left-does {s = s} n stack h d) g m)
