@@ -1,22 +1,22 @@
 -- What filling a temporary and reading it leave. Assumes nothing.
 use mathlib.Core.Path.{_≡_, refl, sym, ap, subst, _∙_}
 use mathlib.Core.List.{List, [], _∷_, append-nil}
-use mathlib.Core.Option.{Option, none, some}
+use mathlib.Core.Option.{none, some}
 use Prim.Native.Nat.{ℕ, zero, suc, _+_, _*_, _%_, _≤_}
 use native.Mathlib.Omega.{arith}
 use borrow.Author.Tests.{ne-eqb}
-use lib.ListN.{length, getD, List·getD-eq-default}
+use lib.ListN.{getD, List·getD-eq-default}
 use lib.Seq.{length-sets}
 use Rattle.spec.specs.Hir as hir
 use Rattle.spec.specs.Ticket as ticket
-use Rattle.spec.specs.Ticket.{TypeWord, tUnit, tBool, tBits, tFloat, tPointer, tArray, tStruct, tTuple, tOpaque, TypeLine, Tables, noType, typeAt, nowhere}
+use Rattle.spec.specs.Ticket.{tUnit, tBits, TypeLine, Tables, noType, nowhere}
 use Rattle.spec.specs.Readable.{Readable}
 use Rattle.spec.specs.Lir.{ByteStorage, ByteOperand, Value}
-use Rattle.spec.specs.Monad.{Lower, Outcome, done, refused, nothing, prepend, bind-to, _>>=_, _>>_, pure, or-refuse}
+use Rattle.spec.specs.Monad.{Lower, Outcome, done, refused, prepend, bind-to, _>>=_, _>>_, pure, or-refuse}
 use Rattle.spec.specs.Monad as monad
 use Rattle.spec.specs.Operands.{value-repr, repr-bytes, value-bytes}
 use Rattle.spec.specs.Operators.{unary-form, binary-form}
-use Rattle.spec.specs.Allocation.{Location, type-size, bits-of, width-of, odd-bits, allocate-storage, allocate-temporary, bytes-from, bytes-at, location-bytes}
+use Rattle.spec.specs.Allocation.{Location, type-size, width-of, odd-bits, allocate-storage, allocate-temporary, bytes-from, bytes-at, location-bytes}
 use Rattle.spec.specs.ReadBytes.{read-location}
 use Rattle.spec.specs.Arithmetic.{masks, mask-location, lower-integer-unary, lower-integer-binary}
 use Rattle.spec.proofs.CostWrites.{masks-length}
@@ -34,15 +34,13 @@ use Rattle.emission.specs.declared.BinaryForm.{BinaryForm}
 use Rattle.emission.specs.Appends.{Texts, texts, counters-of, Positions, Room, room-less}
 use Rattle.emission.specs.Emits.{Emits, Allocates}
 use Rattle.emission.specs.Does.{Does, Refuses, Meets, meets-by, does-then, does-next, does-more, does-emits, does-allocate, room-done}
-use Rattle.emission.specs.Forms.{HasWidth, width-option, unary-form-of, binary-form-of}
-use Rattle.emission.specs.Temporaries.{location, MeetsTemporary, temporary-by}
+use Rattle.emission.specs.Forms.{HasWidth, width-option, odd-width, prepend-nothing, unary-form-of, binary-form-of}
+use Rattle.emission.specs.Temporaries.{location}
 use Rattle.values.specs.declared.State.{State}
 use Rattle.values.specs.declared.Lowered.{Lowered}
 use Rattle.values.specs.Left.{Bufs, bufs, counters-in, MeetsValue}
-use Rattle.values.specs.Laws.{prepend-prepend, drop-meets}
+use Rattle.values.specs.Laws.{prepend-prepend, does-meets}
 use Rattle.reads.specs.Reading.{TypeRoom, StepRoom}
-use Rattle.reads.proofs.Bounds.{weight-least}
-use Rattle.steps.proofs.Laws.{left-does}
 use Rattle.arithmetic.specs.declared.Operation.{Operation}
 use Rattle.arithmetic.specs.Filled.{place, masked, filled, read-filled, MeetsFilled, filled-by}
 use Rattle.arithmetic.specs.Operations.{instructions-of}
@@ -51,10 +49,6 @@ use Rattle.arithmetic.specs.Operations.{instructions-of}
 
 pub record Same {A : Type 0} (m k : Lower A) : Type 0 where
   pub is : (h : hir.At) (c : monad.Counters) → m h c ≡ k h c
-
-prepend-nothing : {A : Type 0} (o : Outcome A) → prepend nothing o ≡ o
-prepend-nothing (refused n l) = refl
-prepend-nothing (done a c p) = refl
 
 bind-prepend : {A B : Type 0} (g : A → Lower B) (h : hir.At) (o : monad.Out) (x : Outcome A) → bind-to g h (prepend o x) ≡ prepend o (bind-to g h x)
 bind-prepend g h o (refused n l) = refl
@@ -134,14 +128,6 @@ does-answer b x =
       few-kinds = x .few-kinds;
     }
 
--- a step that appends, and then a value
-pub value-after : {A : Type 0} {k : ℕ} {code store code′ store′ : List ℕ} {s : State} {m : Lower A} {a : A} {c1 : Counters} {b : Bufs} {r : Lowered} (g : A → Lower Value) (h : hir.At) (n stack : List ℕ)
-    → s .top ≤ length stack → Does k (texts code store) (s .counters) m a (texts code′ store′) c1
-    → MeetsValue (bufs code′ store′ n stack) (record { counters = c1; top = s .top }) (g a h (counters-of c1)) b r
-    → MeetsValue (bufs code store n stack) s ((m >>= g) h (counters-in s)) b r
-unfolding _>>=_
-value-after {s = s} g h n stack le d v = rw (d .is h) (drop-meets (left-does {s = s} n stack h d) le v)
-
 -- ---------------------------------------------------------------- which outcome it was
 
 module _ {n : ℕ} {t t1 : Texts} {c : Counters} {m : Lower Unit} {r : Emitted} (x : Meets n t c m t1 r) where
@@ -150,13 +136,6 @@ module _ {n : ℕ} {t t1 : Texts} {c : Counters} {m : Lower Unit} {r : Emitted} 
 
   pub meets-refused : {k : ℕ} → r ≡ Emitted.Refused k → Refuses c m k
   meets-refused e = subst (λ (z : Emitted). meets-by n t c m t1 z) e (x .shown)
-
-module _ {l l1 : List ℕ} {c : Counters} {m : Lower Location} {ty : ℕ} {r : Temporary} (x : MeetsTemporary l c m ty l1 r) where
-  pub temporary-placed : {a : Allocated} → r ≡ Temporary.Placed a → Allocates l c m (location (a .id .0) ty) l1 (a .counters)
-  temporary-placed e = subst (λ (z : Temporary). temporary-by l c m ty l1 z) e (x .shown)
-
-  pub temporary-refused : {k : ℕ} → r ≡ Temporary.Refused k → Refuses c m k
-  temporary-refused e = subst (λ (z : Temporary). temporary-by l c m ty l1 z) e (x .shown)
 
 module _ {n : ℕ} {t t1 : Texts} {c : Counters} {m : Lower Location} {ty : ℕ} {r : Temporary} (x : MeetsFilled n t c m ty t1 r) where
   pub filled-placed : {a : Allocated} → r ≡ Temporary.Placed a → Does n t c m (place (a .id .0) ty) t1 (a .counters)
@@ -202,26 +181,6 @@ module _ (ty n : ℕ) (w : Width) where
       width-in (Width.Found k) = refl
 
 -- ---------------------------------------------------------------- the mask
-
-abbrev odd-in : Option ℕ → ℕ
-odd-in none = 0
-odd-in (some w) = w % 8
-
-odd-here : (w : TypeWord) (xs : List ℕ) → bits-of w xs % 8 ≡ odd-in (width-of w xs)
-odd-here tUnit xs = refl
-odd-here tBool xs = refl
-odd-here tBits xs = refl
-odd-here tFloat xs = refl
-odd-here tPointer xs = refl
-odd-here tArray xs = refl
-odd-here tStruct xs = refl
-odd-here tTuple xs = refl
-odd-here tOpaque xs = refl
-
--- a pointer's sixteen bits are no odd ones
-odd-width : {T : Tables} {ty : ℕ} {w : Width} → HasWidth T ty w → odd-bits T ty ≡ odd-in (width-option w)
-unfolding odd-bits
-odd-width {T} {ty} e = odd-here ((typeAt T ty) .word) ((typeAt T ty) .args) ∙ ap odd-in (e .is)
 
 pub odd-none : {T : Tables} {ty : ℕ} {w : Width} → HasWidth T ty w → w ≡ Width.Absent → odd-bits T ty ≡ 0
 odd-none {T} {ty} e q = odd-width (subst (λ (z : Width). HasWidth T ty z) q e)
@@ -292,9 +251,6 @@ module _ (T : Tables) (ty : ℕ) (f : List ByteStorage → Lower Unit) where
 -- ---------------------------------------------------------------- its value
 
 module _ (T : Tables) (R : Readable T) {ty : ℕ} {s : State} {stack : List ℕ} (r : StepRoom T ty s stack) where
-  pub step-top : s .top ≤ length stack
-  step-top = omega (arith, r .top, weight-least T (R .types) ty)
-
   pub fill-room : {n : ℕ} → type-size T ty ≡ n → Room (2 * n + 4) (s .counters)
   unfolding type-size
   fill-room e = room-less (omega (arith, R .types .size-most ty)) (r .room)
@@ -314,11 +270,11 @@ unfolding read-filled
 unread-refused T ty f h x = refuses-then (λ t. read-location T t) x .is h
 
 pub read-after : {k : ℕ} {code store code′ store′ : List ℕ} {s : State} {c1 : Counters} {b : Bufs} {r : Lowered} (T : Tables) (ty i : ℕ) (f : List ByteStorage → Lower Unit) (h : hir.At) (n stack : List ℕ)
-    → s .top ≤ length stack → Does k (texts code store) (s .counters) (filled T ty f) (place i ty) (texts code′ store′) c1
+    → Does k (texts code store) (s .counters) (filled T ty f) (place i ty) (texts code′ store′) c1
     → MeetsValue (bufs code′ store′ n stack) (record { counters = c1; top = s .top }) (read-location T (place i ty) h (counters-of c1)) b r
     → MeetsValue (bufs code store n stack) s (read-filled T ty f h (counters-in s)) b r
 unfolding read-filled
-read-after {s = s} T ty i f h n stack le d v = value-after {s = s} (λ t. read-location T t) h n stack le d v
+read-after {s = s} T ty i f h n stack d v = does-meets {s = s} h n stack d (λ t. read-location T t) v
 
 -- ---------------------------------------------------------------- operands
 

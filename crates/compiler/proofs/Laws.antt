@@ -2,13 +2,13 @@
 use Prim.Native.Nat.{ℕ, zero, suc, _+_, _-_, _*_, _≤_, _<_}
 use mathlib.Core.Path.{_≡_, refl, sym, ap, subst, _∙_}
 use mathlib.Core.Bool.{Bool, true, false}
-use mathlib.Core.List.{List, [], _∷_, _++_, append-nil, append-assoc}
+use mathlib.Core.List.{List, _++_, append-nil, append-assoc}
 use native.Mathlib.Omega.{arith}
 use native.Mathlib.Numerals.{add-one}
 use lib.Dec.{leb}
 use borrow.Author.Tests.{le-leb, lt-leb}
-use lib.ListN.{length, take, drop, getD, replicate, length-append, length-drop, drop-of-length-le}
-use lib.Seq.{sets, sets-eq, length-sets, drop-drop, length-take-le, take-at, take-all}
+use lib.ListN.{length, take, drop, getD, replicate, length-replicate, length-append, length-drop, drop-of-length-le}
+use lib.Seq.{sets, sets-eq, length-sets, length-take-le, take-at, take-all}
 use Rattle.spec.specs.Hir.{Expr}
 use Rattle.spec.specs.Ticket.{NodeLine, Tables, exprAt, nowhere}
 use Rattle.spec.specs.Readable.{Readable, line-sum, root}
@@ -16,7 +16,7 @@ use Rattle.spec.specs.Lir.{Value}
 use Rattle.spec.specs.Monad.{Outcome, Out, done, refused}
 use Rattle.spec.specs.Monad as monad
 use Rattle.spec.specs.Lower.{lower-expression, lowered}
-use Rattle.spec.specs.Print.{print-listing, done-line, each, narrowed-line}
+use Rattle.spec.specs.Print.{print-listing}
 use Rattle.spec.specs.Text.{split, line-feed}
 use Rattle.spec.specs.Read.{read-ticket}
 use Rattle.spec.specs.Read as reading
@@ -24,27 +24,29 @@ use Rattle.spec.specs.Answer.{ascending, accepted, listing-of, fitted, of-lower
 use Rattle.spec.specs.Answer as spec-answer
 use Rattle.spec.proofs.CostRoom.{room}
 use Rattle.spec.proofs.ReadingTicket.{readable}
-use Rattle.text.specs.Put.{Put, sat, last, sat-below, sets-append}
+use Rattle.text.proofs.Copying.{middle-is}
+use Rattle.text.specs.Put.{Put, sat, last, sets-append, then}
 use Rattle.tables.specs.declared.Counts.{Counts}
 use Rattle.tables.specs.Tables.{tab, tables-of, storage-line, node-line, node-type-at, weight-at}
 use Rattle.tables.proofs.Laws.{length-tab, weight-here}
 use Rattle.ticket.specs.declared.ReadAnswer.{ReadAnswer}
-use Rattle.ticket.specs.Answers.{answerOf, Answered}
+use Rattle.ticket.specs.Rows.{rows-length}
+use Rattle.ticket.specs.Answers.{AnswerIs, Answered}
 use Rattle.values.specs.declared.State.{State}
 use Rattle.values.specs.declared.Value.{Value as Val}
 use Rattle.values.specs.declared.Lowered.{Lowered}
 use Rattle.values.specs.Heads.{root as root-head, parts-of, head-of, Sound-value}
-use Rattle.values.specs.Left.{Bufs, bufs, counters-in, marked, Left, case-value, MeetsValue, DoneValue}
+use Rattle.values.specs.Left.{Bufs, bufs, counters-in, Left, case-value, MeetsValue, DoneValue}
 use Rattle.values.specs.Stack.{heads, stands-left}
 use Rattle.parts.specs.Meets.{left-fits, left-heads}
 use Rattle.reads.specs.Reading.{weight-of}
-use Rattle.printing.specs.Lines.{head-lines}
 use Rattle.printing.specs.Marks.{marks-from, narrowed-lines}
 use Rattle.printing.proofs.Laws.{value-printed, marks-ascending}
 use Rattle.compiler.specs.declared.Answer.{Answer}
+use Rattle.compiler.specs.declared.Tried.{Tried}
 use Rattle.compiler.specs.declared.Sections.{Sections}
 use Rattle.compiler.specs.declared.Measured.{Measured}
-use Rattle.compiler.specs.Shown.{shown, Answers}
+use Rattle.compiler.specs.Shown.{Answers, case-tried, Tries, room-bytes}
 use Rattle.lowering.specs.Rooms.{TreeRoom}
 use Rattle.compiler.specs.Sections.{
   start-of,
@@ -54,11 +56,15 @@ use Rattle.compiler.specs.Sections.{
   narrowed-text,
   code-text,
   end-text,
+  front-text,
+  back-text,
   print-of,
   end-printed,
   Printable,
   Spans,
+  Ends,
   Sectioned,
+  Held,
   case-measured,
   Measures,
   StoragesPut,
@@ -83,11 +89,11 @@ module _ (rows nodes lists : List ℕ) (n : Counts) where
   next-is = refl
 
 -- the words from a row on
-pub rest-is : (rows : List ℕ) → take (length rows - 5376) (drop 5376 rows) ≡ drop 5376 rows
-rest-is rows = take-all (length rows - 5376) (drop 5376 rows) (omega (arith, length-drop 5376 rows))
+pub rest-is : (rows : List ℕ) → take (length rows - 30) (drop 30 rows) ≡ drop 30 rows
+rest-is rows = take-all (length rows - 30) (drop 30 rows) (omega (arith, length-drop 30 rows))
 
 -- no mark is set
-pub zeros : (n i : ℕ) → _≡_ {A = ℕ} (getD (replicate n 0) i 0) 0
+zeros : (n i : ℕ) → _≡_ {A = ℕ} (getD (replicate n 0) i 0) 0
 zeros zero i = refl
 zeros (suc n) zero = refl
 zeros (suc n) (suc i) = zeros n i
@@ -184,15 +190,22 @@ module _ (rows nodes lists : List ℕ) (n : Counts) where
           subst (λ (z : State). MeetsValue b z (lower-expression T (exprAt 64 T (n .nodes - 1)) nowhere (counters-in z)) b′ r) e m in
       subst (λ (z : Outcome Value). MeetsValue b (start-of n) z b′ r) (root-lowered T n (storage-count rows nodes lists n) (next-is rows nodes lists n) (node-count rows nodes lists n)) k
 
-pub ready-by : {T : Tables} {stack : List ℕ} → Readable T → 8 * all-weights T ≤ length stack → Ready T stack
-ready-by r h = record { readable = r; deep = h }
-
-pub ready-deep : {T : Tables} {stack : List ℕ} → Readable T → 16384 ≤ length stack → Ready T stack
-ready-deep r h = record { readable = r; deep = omega (arith, r .weight-sum) }
-
 -- the stack is as long as it was
 pub ready-kept : {T : Tables} {l l′ : List ℕ} → length l′ ≡ length l → Ready T l → Ready T l′
 ready-kept e R = record { readable = R .readable; deep = omega (arith, R .deep) }
+
+-- cleared arrays for so many records and marks
+module _ (rows nodes lists : List ℕ) (n : Counts) (r : Readable (tables-of rows nodes lists n)) where
+  pub few-storages : n .storages ≤ 256
+  few-storages = omega (arith, r .storage-count, storage-count rows nodes lists n)
+
+  pub few-records : all-weights (tables-of rows nodes lists n) ≤ 2048
+  few-records = r .weight-sum
+
+  pub cleared : (records marks : ℕ) → all-weights (tables-of rows nodes lists n) ≤ records → n .storages ≤ marks
+      → Ready (tables-of rows nodes lists n) (replicate (8 * records) 0) × (n .storages ≤ length {A = ℕ} (replicate marks 0)) × ((i : ℕ) → _≡_ {A = ℕ} (getD (replicate marks 0) i 0) 0)
+  cleared records marks h k =
+      (record { readable = r; deep = omega (arith, length-replicate {A = ℕ} (8 * records) 0) }, omega (arith, length-replicate {A = ℕ} marks 0), zeros marks)
 
 -- ---------------------------------------------------------------- a run that is done
 
@@ -218,21 +231,19 @@ filled m x e =
     let a : length m ≤ 0 + length x = omega arith in
     sets-eq x m 0 (omega arith) ∙ ap (λ (z : List ℕ). x ++ z) (drop-of-length-le m a) ∙ append-nil x
 
-pub front-put : (l x y : List ℕ) (end : ℕ) → end ≤ length l → end ≡ length x → y ≡ sets (take end l) 0 x → y ++ drop end l ≡ sets l 0 x
-front-put l x y end h e f =
-    let t : y ≡ x = f ∙ filled (take end l) x (length-take-le end l h ∙ e) in
-    let z : 0 + length x ≡ end = omega arith in
-    ap (λ (w : List ℕ). w ++ drop end l) t ∙ ap (λ (k : ℕ). x ++ drop k l) (sym z) ∙ sym (sets-eq x l 0 (omega arith))
+front-is : (l x : List ℕ) (end : ℕ) → end ≤ length l → end ≡ length x → x ++ drop end l ≡ sets l 0 x
+front-is l x end h e = let z : 0 + length x ≡ end = omega arith in ap (λ (k : ℕ). x ++ drop k l) (sym z) ∙ sym (sets-eq x l 0 (omega arith))
 
-pub middle-put : (l x y : List ℕ) (from end : ℕ) → from ≤ end → end ≤ length l → end ≡ from + length x → y ≡ sets (take (end - from) (drop from l)) 0 x
+front-put : (l x y : List ℕ) (end : ℕ) → end ≤ length l → end ≡ length x → y ≡ sets (take end l) 0 x → y ++ drop end l ≡ sets l 0 x
+front-put l x y end h e f = ap (λ (w : List ℕ). w ++ drop end l) (f ∙ filled (take end l) x (length-take-le end l h ∙ e)) ∙ front-is l x end h e
+
+middle-put : (l x y : List ℕ) (from end : ℕ) → from ≤ end → end ≤ length l → end ≡ from + length x → y ≡ sets (take (end - from) (drop from l)) 0 x
     → take from l ++ (y ++ drop (end - from) (drop from l)) ≡ sets l from x
 middle-put l x y from end h k e f =
     let d = length-drop from l in
     let n : end - from ≤ length (drop from l) = omega arith in
     let t : y ≡ x = f ∙ filled (take (end - from) (drop from l)) x (length-take-le (end - from) (drop from l) n ∙ (omega arith)) in
-    let z : from + (end - from) ≡ from + length x = omega arith in
-    ap (λ (w : List ℕ). take from l ++ (w ++ drop (end - from) (drop from l))) t ∙ ap (λ (w : List ℕ). take from l ++ (x ++ w)) (drop-drop (end - from) from l ∙ ap (λ (i : ℕ). drop i l) z)
-    ∙ sym (append-assoc (take from l) x (drop (from + length x) l)) ∙ sym (sets-eq x l from (omega arith))
+    ap (λ (w : List ℕ). take from l ++ (w ++ drop (end - from) (drop from l))) t ∙ middle-is l x from end h k (omega arith)
 
 -- whichever answer it was
 as-done : {b : Bufs} {s : State} {x : Outcome Value} {b′ : Bufs} {r : Lowered} → MeetsValue b s x b′ r
@@ -277,15 +288,15 @@ sat-zero : (q n : ℕ) → q ≡ sat (0 + n) → q ≡ sat n
 unfolding sat
 sat-zero q n e = omega arith
 
-pub sectioned : (T : Tables) (n : Counts) {b b′ : Bufs} {x : Val} {s : State} {m : Sections} (d : DoneValue b (start-of n) (lowered T) b′ x s)
-    → length (T .storages) ≡ n .storages → Readable T → 256 ≤ length (b .narrowed) → ((i : ℕ) → getD (b .narrowed) i 0 ≡ 0)
+sectioned : (T : Tables) (n : Counts) {b b′ : Bufs} {x : Val} {s : State} {m : Sections} (d : DoneValue b (start-of n) (lowered T) b′ x s)
+    → length (T .storages) ≡ n .storages → n .storages ≤ length (b .narrowed) → ((i : ℕ) → getD (b .narrowed) i 0 ≡ 0)
     → Spans (s .counters .stored) (s .counters .at) (narrowed-lines (marks-from (n .storages) 0 (b′ .narrowed))) (end-printed n (b′ .stack) x s) m
     → Sectioned T (b′ .narrowed) m
-sectioned T n {b} {b′} {x} {s} {m} d e R h z p =
+sectioned T n {b} {b′} {x} {s} {m} d e h z p =
     let l = d .left in
     let k : narrowed-lines (marks-from (n .storages) 0 (b′ .narrowed)) ≡ narrowed-text T (d .out) =
         ap (λ (y : List ℕ). narrowed-lines (marks-from (n .storages) 0 y)) (l .narrows)
-        ∙ ap narrowed-lines (marks-ascending (n .storages) 0 (b .narrowed) (d .out .narrowed) (omega (arith, R .storage-count)) z)
+        ∙ ap narrowed-lines (marks-ascending (n .storages) 0 (b .narrowed) (d .out .narrowed) (omega arith) z)
         ∙ ap (λ (y : ℕ). narrowed-lines (ascending y 0 (d .out .narrowed))) (sym e) in
     let t = end-is n (d .v) x l (d .head) (d .sound) in
     record {
@@ -303,12 +314,49 @@ sectioned T n {b} {b′} {x} {s} {m} d e R h z p =
           };
     }
 
--- which it was
-pub measured-done : {T : Tables} {l : List ℕ} {r : Measured} {m : Sections} → Measures T l r → r ≡ Measured.Done m → Sectioned T l m
-measured-done {T} {l} k e = subst (λ (z : Measured). case-measured T l z) e (k .shown)
+-- where the sections end, whatever is put there
+sat-behind : (p q a b c n : ℕ) → b ≡ sat (a + n) → q ≡ sat (p + a) → c ≡ sat (p + b) → c ≡ sat (q + n)
+unfolding sat
+sat-behind p q a b c n e f g = omega arith
 
-pub measured-refused : {T : Tables} {l : List ℕ} {r : Measured} {n k : ℕ} → Measures T l r → r ≡ Measured.Refused n k → lowered T ≡ refused n k
-measured-refused {T} {l} k e = subst (λ (z : Measured). case-measured T l z) e (k .shown)
+ends-spans : {stored at : ℕ} {lines last store code store′ code′ : List ℕ} {m : Sections} → Ends stored at lines last store code store′ code′ m → Spans stored at lines last m
+ends-spans {stored} {at} {lines} {last} {m = m} p =
+    record {
+      storages = p .storages;
+      narrowed = p .front .next ∙ ap (λ (y : ℕ). sat (y + length lines)) (sym (p .storages));
+      code = p .code-end;
+      end = sat-behind (m .narrowed) (m .code) at (p .behind) (m .end) (length last) (p .back .next) (p .code-end) (p .end);
+    }
+
+-- what is put at the start of a slice stands there, if it has room
+put-taken : {l x l′ : List ℕ} {r : ℕ} → Put l 0 x l′ r → length x ≤ length l′ → take (length x) l′ ≡ x
+put-taken {l} {x} {l′} p h =
+    let n : length l′ ≡ length l = ap length (p .text) ∙ length-sets l 0 x in
+    ap (λ (y : List ℕ). take (length x) y) (p .text ∙ sets-eq x l 0 (omega arith)) ∙ take-at x (drop (0 + length x) l) (length x) refl
+
+pub held : (T : Tables) (n : Counts) {b b′ : Bufs} {x : Val} {s : State} {store code : List ℕ} {m : Sections} (d : DoneValue b (start-of n) (lowered T) b′ x s)
+    → length (T .storages) ≡ n .storages → n .storages ≤ length (b .narrowed) → ((i : ℕ) → getD (b .narrowed) i 0 ≡ 0)
+    → Ends (s .counters .stored) (s .counters .at) (narrowed-lines (marks-from (n .storages) 0 (b′ .narrowed))) (end-printed n (b′ .stack) x s) (b′ .store) (b′ .code) store code m
+    → Held T (b′ .narrowed) store code m
+unfolding sectioned
+held T n {b} {b′} {x} {s} {store} {code} {m} d e h z p =
+    let l = d .left in
+    let S = sectioned T n d e h z (ends-spans p) in
+    let k : narrowed-lines (marks-from (n .storages) 0 (b′ .narrowed)) ≡ narrowed-text T (d .out) = ap (λ (y : ℕ). narrowed-lines (marks-from y 0 (b′ .narrowed))) (sym e) ∙ S .marks in
+    let t = end-is n (d .v) x l (d .head) (d .sound) in
+    record {
+      sections = S;
+      front = put-taken (then (l .appends .stored) (subst (λ (y : List ℕ). Put (b′ .store) (s .counters .stored) y store (m .narrowed)) k (p .front)));
+      back = put-taken (then (l .appends .coded) (subst (λ (y : List ℕ). Put (b′ .code) (s .counters .at) y code (p .behind)) t (p .back)));
+    }
+
+-- which it was
+module _ {T : Tables} {l store code : List ℕ} {r : Measured} (k : Measures T l store code r) where
+  pub measured-done : {m : Sections} → r ≡ Measured.Done m → Held T l store code m
+  measured-done e = subst (λ (z : Measured). case-measured T l store code z) e (k .shown)
+
+  pub measured-refused : {i j : ℕ} → r ≡ Measured.Refused i j → lowered T ≡ refused i j
+  measured-refused e = subst (λ (z : Measured). case-measured T l store code z) e (k .shown)
 
 -- ---------------------------------------------------------------- where all fits, positions are lengths
 
@@ -413,6 +461,46 @@ module _ {T : Tables} {marks : List ℕ} {m : Sections} (S : Sectioned T marks m
       let w = sections-put l l1 l2 l3 l4 y t1 t2 t3 t4 in
       record { text = λ v′ c′ o′ i. w ∙ ap (λ (z : List ℕ). sets l 0 z) (outcome-same S v′ c′ o′ i) }
 
+-- both halves
+module _ {T : Tables} {marks store code : List ℕ} {m : Sections} (H : Held T marks store code m) (h : m .end < last) where
+  -- the first ends before the second
+  pub half-first : m .narrowed ≤ m .end
+  half-first = let y = exact (H .sections) h in omega (arith, y .code, y .end)
+
+  pub halves-put : (l : List ℕ) {l′ : List ℕ} → m .narrowed ≤ length store → m .end - m .narrowed ≤ length code
+      → l′ ≡ sets (sets l 0 (take (m .narrowed) store)) (m .narrowed) (take (m .end - m .narrowed) code) → ListingPut T l l′
+  halves-put l f g p =
+      let S = H .sections in
+      let v = S .value in
+      let c = S .counters in
+      let o = S .out in
+      let y = exact S h in
+      let A = front-text T o in
+      let E = back-text v c o in
+      let a : m .narrowed ≡ length A = omega (arith, length-append (storages-text o) (narrowed-text T o), y .storages, y .narrowed) in
+      let b : m .end - m .narrowed ≡ length E = omega (arith, length-append (code-text o) (end-text v c o), y .code, y .end) in
+      let s : take (m .narrowed) store ≡ A = ap (λ (k : ℕ). take k store) a ∙ H .front (omega arith) in
+      let t : take (m .end - m .narrowed) code ≡ E = ap (λ (k : ℕ). take k code) b ∙ H .back (omega arith) in
+      let i : m .narrowed ≡ 0 + length A = omega arith in
+      let w : sets (sets l 0 A) (m .narrowed) E ≡ sets l 0 (print-of T v c o) =
+          ap (λ (k : ℕ). sets (sets l 0 A) k E) i ∙ sym (sets-append l 0 A E) ∙ ap (λ (z : List ℕ). sets l 0 z) (append-assoc (storages-text o) (narrowed-text T o) E ∙ sym (listing-is T v c o)) in
+      record { text = λ v′ c′ o′ j. p ∙ (rw (s, t) w) ∙ ap (λ (z : List ℕ). sets l 0 z) (outcome-same S v′ c′ o′ j) }
+
+-- ---------------------------------------------------------------- copying
+
+-- one part behind the other, at the start of a slice
+module _ (l : List ℕ) (front end : ℕ) (h : front ≤ end) (k : end ≤ length l) where
+  pub behind-long : (y : List ℕ) → length y ≡ front → length (take (end - front) (drop front (y ++ drop front l))) ≡ end - front
+  behind-long y e = length-take-le (end - front) (drop front (y ++ drop front l)) (omega (arith, length-drop front (y ++ drop front l), length-append y (drop front l), length-drop front l))
+
+  pub halves-is : (x w : List ℕ) {y z : List ℕ} → length x ≡ front → length w ≡ end - front → y ≡ x → z ≡ w
+      → take front (y ++ drop front l) ++ (z ++ drop (end - front) (drop front (y ++ drop front l))) ≡ sets (sets l 0 x) front w
+  halves-is x w {y} {z} i j p q =
+      let f : y ++ drop front l ≡ sets l 0 x = ap (λ (u : List ℕ). u ++ drop front l) p ∙ front-is l x front (omega arith) (sym i) in
+      let n = length-sets l 0 x in
+      ap (λ (u : List ℕ). take front u ++ (z ++ drop (end - front) (drop front u))) f ∙ ap (λ (u : List ℕ). take front (sets l 0 x) ++ (u ++ drop (end - front) (drop front (sets l 0 x)))) q
+      ∙ middle-is (sets l 0 x) w front end h (omega arith) (sym j)
+
 -- ---------------------------------------------------------------- the answer
 
 pub answer-refused : (T : Tables) (room : ℕ) (l : List ℕ) (n k : ℕ) → lowered T ≡ refused n k → Answers (of-lowering T room (lowered T)) l l (Answer.Refused n k)
@@ -462,12 +550,13 @@ module _ {T : Tables} {marks : List ℕ} {m : Sections} (S : Sectioned T marks m
 
 module _ {o : reading.Read} {t ls : List ℕ} {r : ReadAnswer} (a : Answered o t ls r) where
   pub read-refused : {n k : ℕ} → r ≡ ReadAnswer.Refused n k → reading.refused n k ≡ o
-  unfolding answerOf
-  read-refused e = rw e at (a .answer)
+  read-refused e = subst (λ (z : ReadAnswer). AnswerIs o t ls z) e (a .answer)
 
-  pub read-accepted : {c : Counts} → r ≡ ReadAnswer.Accepted c → reading.accepted (tables-of t (drop 5376 t) ls c) ≡ o
-  unfolding answerOf
-  read-accepted e = rw e at (a .answer)
+  pub read-accepted : {c : Counts} → r ≡ ReadAnswer.Accepted c → reading.accepted (tables-of t (drop 30 t) ls c) ≡ o
+  read-accepted e = subst (λ (z : ReadAnswer). AnswerIs o t ls z) e (a .answer)
+
+  pub read-no-room : r ≡ ReadAnswer.NoRoom → length t < rows-length
+  read-no-room e = subst (λ (z : ReadAnswer). AnswerIs o t ls z) e (a .answer)
 
 pub answer-unread : (text l : List ℕ) (room n k : ℕ) → reading.refused n k ≡ read-ticket text → Answers (answer text room) l l (Answer.Refused n k)
 unfolding answer of-reading left-in
@@ -487,3 +576,52 @@ text-too-long text h = by (leb (length text) 65536) (lt-leb (length text) 65536 
     by : (b : Bool) → b ≡ false → reading.refused 1 0 ≡ elim b as (λ _. reading.Read) [ true ↦ reading.read-lines (split line-feed text) reading.start | false ↦ reading.refused 1 0 ]
     by true e = cc
     by false e = refl
+
+-- by the answer's own form
+pub answers-as : {a : spec-answer.Answer} {l l′ : List ℕ} {r r′ : Answer} → r ≡ r′ → Answers a l l′ r → Answers a l l′ r′
+answers-as {a} {l} {l′} e h = subst (λ (z : Answer). Answers a l l′ z) e h
+
+-- ---------------------------------------------------------------- rooms
+
+-- a room lets the next be tried only where there is one, and the buffer is then as it was
+pub record Trial (a : spec-answer.Answer) (room : ℕ) (l l′ : List ℕ) (r : Tried) : Type 0 where
+  pub rows : ℕ
+  pub next : rows < rows-length → room < 2
+  pub tries : Tries a rows l l′ r
+  pub long : length l′ ≡ length l
+
+pub trial-of : {a : spec-answer.Answer} {rows room : ℕ} {l l₁ l₂ : List ℕ} {r₁ r₂ : Tried} → (rows < rows-length → room < 2) → Tries a rows l l₁ r₁ → length l₁ ≡ length l → l₂ ≡ l₁ → r₂ ≡ r₁
+    → Trial a room l l₂ r₂
+trial-of {rows = rows} n t k e f = rw (e, f) (record { rows = rows; next = n; tries = t; long = k })
+
+module _ {a : spec-answer.Answer} {room : ℕ} {l l′ : List ℕ} {r : Tried} (t : Trial a room l l′ r) where
+  as-tried : {r′ : Tried} → r ≡ r′ → case-tried a (t .rows) l l′ r′
+  as-tried e = subst (λ (z : Tried). case-tried a (t .rows) l l′ z) e (t .tries .shown)
+
+  pub trial-refused : {k i : ℕ} → r ≡ Tried.Refused k i → Answers a l l′ (Answer.Refused k i)
+  trial-refused e = as-tried e
+
+  pub trial-accepted : {k : ℕ} → r ≡ Tried.Accepted k → Answers a l l′ (Answer.Accepted k)
+  trial-accepted e = as-tried e
+
+  pub trial-next : r ≡ Tried.NoRoom → room < 2
+  trial-next e = t .next (as-tried e .0)
+
+  pub trial-same : r ≡ Tried.NoRoom → l′ ≡ l
+  trial-same e = as-tried e .1
+
+-- a text that a room is for is one for the next, and for the last
+pub room-next : (room n : ℕ) → room < 2 → n ≤ room-bytes room → n ≤ room-bytes (room + 1)
+room-next zero n h k = omega arith
+room-next (suc zero) n h k = omega arith
+room-next (suc (suc m)) n h k = absurd (omega arith)
+
+pub room-most : (room : ℕ) → room-bytes room ≤ 65536
+room-most zero = omega arith
+room-most (suc zero) = omega arith
+room-most (suc (suc zero)) = omega arith
+room-most (suc (suc (suc m))) = omega arith
+
+-- tried again over the same buffer
+pub answer-again : (text : List ℕ) {l l′ l″ : List ℕ} {r : Answer} → l′ ≡ l → Answers (answer text (length l′)) l′ l″ r → Answers (answer text (length l)) l l″ r
+answer-again text {l″ = l″} {r} e h = subst (λ (z : List ℕ). Answers (answer text (length z)) z l″ r) e h

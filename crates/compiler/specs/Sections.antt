@@ -2,17 +2,17 @@
 use Prim.Native.Nat.{ℕ, _+_, _-_, _*_, _≤_}
 use mathlib.Core.Path.{_≡_}
 use mathlib.Core.List.{List, _∷_, _++_}
-use lib.ListN.{length, getD}
+use lib.ListN.{length, take}
 use lib.Seq.{sets}
 use Rattle.spec.specs.Ticket.{Tables}
 use Rattle.spec.specs.Readable.{Readable, line-sum}
 use Rattle.spec.specs.Lir.{Value}
-use Rattle.spec.specs.Monad.{Outcome, Out, done, refused}
+use Rattle.spec.specs.Monad.{Out, done, refused}
 use Rattle.spec.specs.Monad as monad
 use Rattle.spec.specs.Lower.{lowered}
 use Rattle.spec.specs.Print.{each, storage-line, instruction-line, narrowed-line, value-lines, done-line, print-listing}
 use Rattle.spec.specs.Answer.{ascending, listing-of}
-use Rattle.text.specs.Put.{sat}
+use Rattle.text.specs.Put.{Put, sat}
 use Rattle.tables.specs.declared.Counts.{Counts}
 use Rattle.values.specs.declared.State.{State}
 use Rattle.values.specs.declared.Value.{Value as Val}
@@ -53,6 +53,13 @@ code-text o = each instruction-line (o .instructions)
 abbrev pub end-text : Value → monad.Counters → Out → List ℕ
 end-text v c o = value-lines v ++ done-line (record { instructions = length (o .instructions); storages = length (o .storages); next = c .temporary })
 
+-- the listing's halves
+abbrev pub front-text : Tables → Out → List ℕ
+front-text T o = storages-text o ++ narrowed-text T o
+
+abbrev pub back-text : Value → monad.Counters → Out → List ℕ
+back-text v c o = code-text o ++ end-text v c o
+
 abbrev pub print-of : Tables → Value → monad.Counters → Out → List ℕ
 print-of T v c o = print-listing (listing-of T v c o)
 
@@ -78,6 +85,15 @@ pub record Spans (stored at : ℕ) (lines last : List ℕ) (m : Sections) : Type
   pub code : m .code ≡ sat (m .narrowed + at)
   pub end : m .end ≡ sat (m .code + length last)
 
+-- the same, with the lines put behind the storages and the last ones behind the instructions
+pub record Ends (stored at : ℕ) (lines last store code store′ code′ : List ℕ) (m : Sections) : Type 0 where
+  pub storages : m .storages ≡ stored
+  pub front : Put store stored lines store′ (m .narrowed)
+  pub code-end : m .code ≡ sat (m .narrowed + at)
+  pub behind : ℕ
+  pub back : Put code at last code′ behind
+  pub end : m .end ≡ sat (m .narrowed + behind)
+
 -- the same by the definitions, of a lowering that is done and has left these marks
 pub record Sectioned (T : Tables) (l : List ℕ) (m : Sections) : Type 0 where
   pub value : Value
@@ -87,12 +103,19 @@ pub record Sectioned (T : Tables) (l : List ℕ) (m : Sections) : Type 0 where
   pub marks : narrowed-lines (marks-from (length (T .storages)) 0 l) ≡ narrowed-text T out
   pub spans : Spans (sat (length (storages-text out))) (length (code-text out)) (narrowed-text T out) (end-text value counters out) m
 
-abbrev pub case-measured : Tables → List ℕ → Measured → Type 0
-case-measured T marks (Measured.Refused n l) = lowered T ≡ refused n l
-case-measured T marks (Measured.Done m) = Sectioned T marks m
+-- and each half at the start of its slice, if it has room there
+pub record Held (T : Tables) (marks store code : List ℕ) (m : Sections) : Type 0 where
+  pub sections : Sectioned T marks m
+  pub front : length (front-text T (sections .out)) ≤ length store → take (length (front-text T (sections .out))) store ≡ front-text T (sections .out)
+  pub back : length (back-text (sections .value) (sections .counters) (sections .out)) ≤ length code
+      → take (length (back-text (sections .value) (sections .counters) (sections .out))) code ≡ back-text (sections .value) (sections .counters) (sections .out)
 
-pub record Measures (T : Tables) (marks : List ℕ) (r : Measured) : Type 0 where
-  pub shown : case-measured T marks r
+abbrev pub case-measured : Tables → List ℕ → List ℕ → List ℕ → Measured → Type 0
+case-measured T marks store code (Measured.Refused n l) = lowered T ≡ refused n l
+case-measured T marks store code (Measured.Done m) = Held T marks store code m
+
+pub record Measures (T : Tables) (marks store code : List ℕ) (r : Measured) : Type 0 where
+  pub shown : case-measured T marks store code r
 
 -- ---------------------------------------------------------------- writing
 

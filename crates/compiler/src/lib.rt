@@ -1,8 +1,11 @@
 // The public entry: a ticket's text into the listing of its lowering, in a lent buffer.
 //
-// The listing is not held anywhere else. The ticket is lowered once over slices too short for any text, which finds every refusal and
-// where each section of the listing ends; if the buffer is long enough, it is lowered again for the storages' section, and once more for
-// the instructions'. So a refusal writes nothing.
+// The ticket is lowered over two arrays of our own, which finds every refusal and where each section of the listing ends. If the buffer is
+// long enough, the listing is copied from them; one that they have no room for is made in the buffer, by lowering again for the storages'
+// section, and once more for the instructions'. So a refusal writes nothing.
+//
+// What is cleared for a ticket fits it: words for its tables by its length, and more where its lines are many; the arrays by the weights and
+// sizes of its nodes' values.
 use emission::Counters;
 use lowering::lower_expression;
 use tables::Counts;
@@ -12,8 +15,9 @@ use values::Lowered;
 use values::State;
 use values::Value;
 ghost use mathlib.Core.Path.{_≡_};
-ghost use Prim.Native.Nat.{ℕ, _+_, _*_, _≤_};
-ghost use lib.ListN.{length, drop, getD};
+ghost use Prim.Native.Nat.{ℕ, _+_, _-_, _*_, _≤_};
+ghost use lib.ListN.{length, take, drop, getD};
+ghost use lib.Seq.{sets};
 ghost use Rattle.spec.specs.Readable.{Readable};
 ghost use Rattle.spec.specs.Lower.{lowered};
 ghost use Rattle.spec.specs.Answer.{answer, of-lowering};
@@ -22,12 +26,19 @@ ghost use Rattle.tables.specs.Tables.{tables-of, node-line, Sized};
 ghost use Rattle.values.specs.Left.{bufs, MeetsValue};
 ghost use Rattle.reads.specs.Reading.{weight-of};
 ghost use Rattle.printing.specs.Marks.{marks-from, narrowed-lines};
-ghost use Rattle.compiler.specs.Shown.{Answers};
-ghost use Rattle.compiler.specs.Sections.{start-of, all-weights, Ready, Printable, end-printed, Spans, Sectioned, Measures, StoragesPut, CodePut, ListingPut};
+ghost use Rattle.compiler.specs.Shown.{Answers, Tries, room-bytes};
+ghost use Rattle.compiler.specs.Sections.{start-of, all-weights, Ready, Printable, end-printed, Ends, Sectioned, Held, Measures, StoragesPut, CodePut, ListingPut};
 
 pub enum Answer {
     Refused(u64, u64),
     Accepted(usize),
+}
+
+// As Answer, or that the rows lent were too few.
+pub enum Tried {
+    Refused(u64, u64),
+    Accepted(usize),
+    NoRoom,
 }
 
 // Where each section of the listing ends; value and last line are one section.
@@ -98,40 +109,49 @@ fn farther(at: usize, n: usize) -> usize
     at + n
 }
 
-// Where the sections end, once all is lowered: what is yet to print is printed to nowhere.
-fn section_ends(narrowed: &[u64], stack: &[u64], counts: Counts, v: Value, s: State) -> Sections
+// Where the sections end, once all is lowered: what is yet to print is printed behind the storages and behind the instructions.
+fn section_ends(
+    code: &mut [u8],
+    store: &mut [u8],
+    narrowed: &[u64],
+    stack: &[u64],
+    counts: Counts,
+    v: Value,
+    s: State,
+) -> Sections
     requires { ⌜ Printable counts (now stack) v s ⌝ }
-    ensures { λ r. ⌜ Spans (s .counters .stored) (s .counters .at) (narrowed-lines (marks-from (counts .storages) 0 (now (narrowed .entry)))) (end-printed counts (now (stack .entry)) v s) r ⌝ }
+    ensures { λ r. ⌜ Ends (s .counters .stored) (s .counters .at) (narrowed-lines (marks-from (counts .storages) 0 (now (narrowed .entry)))) (end-printed counts (now (stack .entry)) v s) (now (store .entry)) (now (code .entry)) (now (store .exit)) (now (code .exit)) r ⌝ }
 {
-    let mut nowhere = [0u8; 1];
     let storages = s.counters.stored;
-    let p = printing::print_narrowed(&mut nowhere, storages, narrowed, counts.storages);
-    let code = farther(p, s.counters.at);
-    let end = print_end(&mut nowhere, code, stack, counts, v, s);
+    let at = s.counters.at;
+    let front = printing::print_narrowed(store, storages, narrowed, counts.storages);
+    let back = print_end(code, at, stack, counts, v, s);
     Sections {
         storages,
-        narrowed: p,
-        code,
-        end,
+        narrowed: front,
+        code: farther(front, at),
+        end: farther(front, back),
     }
 }
 
-// Every refusal of lowering, or where the listing's sections end.
+// Every refusal of lowering, or where the listing's sections end, with as much of its two halves as the slices have room for.
 fn measure(
     rows: &[u64],
     nodes: &[u64],
     lists: &[u64],
     counts: Counts,
+    code: &mut [u8],
+    store: &mut [u8],
     narrowed: &mut [u64],
     stack: &mut [u64],
 ) -> Measured
-    requires { ⌜ (Ready (tables-of (now rows) (now nodes) (now lists) counts) (now stack)) × (256 ≤ length (now narrowed)) × ((i : ℕ) → getD (now narrowed) i 0 ≡ 0) ⌝ }
-    ensures { λ r. ⌜ Measures (tables-of (now (rows .entry)) (now (nodes .entry)) (now (lists .entry)) counts) (now (narrowed .exit)) r ⌝ }
+    requires { ⌜ (Ready (tables-of (now rows) (now nodes) (now lists) counts) (now stack)) × (counts .storages ≤ length (now narrowed)) × ((i : ℕ) → getD (now narrowed) i 0 ≡ 0) ⌝ }
+    ensures { λ r. ⌜ Measures (tables-of (now (rows .entry)) (now (nodes .entry)) (now (lists .entry)) counts) (now (narrowed .exit)) (now (store .exit)) (now (code .exit)) r ⌝ }
 {
-    let mut code = [0u8; 1];
-    let mut store = [0u8; 1];
-    match lower_root(rows, nodes, lists, counts, &mut code, &mut store, narrowed, stack) {
-        Lowered::Done(v, s) => Measured::Done(section_ends(narrowed, stack, counts, v, s)),
+    match lower_root(rows, nodes, lists, counts, code, store, narrowed, stack) {
+        Lowered::Done(v, s) => {
+            Measured::Done(section_ends(code, store, narrowed, stack, counts, v, s))
+        }
         Lowered::Refused(n, l) => Measured::Refused(n, l),
     }
 }
@@ -173,7 +193,7 @@ fn write_code(
     lower_root(rows, nodes, lists, counts, &mut buffer[from..end], &mut store, &mut narrowed, stack)
 }
 
-// The listing into a buffer that is long enough.
+// The listing into a buffer that is long enough, section by section.
 fn write(
     rows: &[u64],
     nodes: &[u64],
@@ -197,27 +217,61 @@ fn write(
     }
 }
 
+// Storages and narrowed ones, and behind them instructions, value and last line.
+fn copy_halves(store: &[u8], code: &[u8], buffer: &mut [u8], front: usize, end: usize)
+    requires { ⌜ (front ≤ end) × (end ≤ length (now buffer)) × (front ≤ length (now store)) × (end - front ≤ length (now code)) ⌝ }
+    ensures { λ _. ⌜ now (buffer .exit) ≡ sets (sets (now (buffer .entry)) 0 (take front (now (store .entry)))) front (take (end - front) (now (code .entry))) ⌝ }
+{
+    text::copy_in(&mut buffer[..front], &store[..front]);
+    text::copy_in(&mut buffer[front..end], &code[..end - front]);
+}
+
+// The same listing from its halves, where the first run had room for them.
+fn place(
+    rows: &[u64],
+    nodes: &[u64],
+    lists: &[u64],
+    counts: Counts,
+    store: &[u8],
+    code: &[u8],
+    narrowed: &[u64],
+    stack: &mut [u64],
+    buffer: &mut [u8],
+    m: Sections,
+)
+    requires { ⌜ (Ready (tables-of (now rows) (now nodes) (now lists) counts) (now stack)) × (Held (tables-of (now rows) (now nodes) (now lists) counts) (now narrowed) (now store) (now code) m) × (m .end ≤ length (now buffer)) ⌝ }
+    ensures { λ _. ⌜ ListingPut (tables-of (now (rows .entry)) (now (nodes .entry)) (now (lists .entry)) counts) (now (buffer .entry)) (now (buffer .exit)) ⌝ }
+{
+    if m.narrowed <= store.len() && m.end - m.narrowed <= code.len() {
+        copy_halves(store, code, buffer, m.narrowed, m.end);
+    } else {
+        write(rows, nodes, lists, counts, narrowed, stack, buffer, m);
+    }
+}
+
 // What was read, lowered and written.
 fn lower_tables(
     rows: &[u64],
     nodes: &[u64],
     lists: &[u64],
     counts: Counts,
+    code: &mut [u8],
+    store: &mut [u8],
     narrowed: &mut [u64],
     stack: &mut [u64],
     buffer: &mut [u8],
 ) -> Answer
-    requires { ⌜ (Ready (tables-of (now rows) (now nodes) (now lists) counts) (now stack)) × (256 ≤ length (now narrowed)) × ((i : ℕ) → getD (now narrowed) i 0 ≡ 0) ⌝ }
+    requires { ⌜ (Ready (tables-of (now rows) (now nodes) (now lists) counts) (now stack)) × (counts .storages ≤ length (now narrowed)) × ((i : ℕ) → getD (now narrowed) i 0 ≡ 0) ⌝ }
     ensures { λ r. ⌜ Answers (of-lowering (tables-of (now (rows .entry)) (now (nodes .entry)) (now (lists .entry)) counts) (length (now (buffer .entry))) (lowered (tables-of (now (rows .entry)) (now (nodes .entry)) (now (lists .entry)) counts))) (now (buffer .entry)) (now (buffer .exit)) r ⌝ }
 {
-    match measure(rows, nodes, lists, counts, narrowed, stack) {
+    match measure(rows, nodes, lists, counts, code, store, narrowed, stack) {
         Measured::Refused(n, l) => Answer::Refused(n, l),
         Measured::Done(m) => {
             let end = m.end;
             if buffer.len() < end {
                 return Answer::Refused(28, 0);
             }
-            write(rows, nodes, lists, counts, narrowed, stack, buffer, m);
+            place(rows, nodes, lists, counts, store, code, narrowed, stack, buffer, m);
             Answer::Accepted(end)
         }
     }
@@ -246,7 +300,25 @@ fn weights(rows: &[u64], nodes: &[u64], lists: &[u64], counts: Counts) -> u64
     sum
 }
 
-// A stack of 128 records, the least that is cleared.
+// A stack of 32 records, room for a short listing, and marks for as many storages: the least that is cleared.
+fn lower_flat(
+    rows: &[u64],
+    nodes: &[u64],
+    lists: &[u64],
+    counts: Counts,
+    buffer: &mut [u8],
+) -> Answer
+    requires { ⌜ (Readable (tables-of (now rows) (now nodes) (now lists) counts)) × (all-weights (tables-of (now rows) (now nodes) (now lists) counts) ≤ 32) × (counts .storages ≤ 32) ⌝ }
+    ensures { λ r. ⌜ Answers (of-lowering (tables-of (now (rows .entry)) (now (nodes .entry)) (now (lists .entry)) counts) (length (now (buffer .entry))) (lowered (tables-of (now (rows .entry)) (now (nodes .entry)) (now (lists .entry)) counts))) (now (buffer .entry)) (now (buffer .exit)) r ⌝ }
+{
+    let mut code = [0u8; 2048];
+    let mut store = [0u8; 1024];
+    let mut narrowed = [0u64; 32];
+    let mut stack = [0u64; 256];
+    lower_tables(rows, nodes, lists, counts, &mut code, &mut store, &mut narrowed, &mut stack, buffer)
+}
+
+// A stack of 128 records, marks for as many storages as any ticket has, and room for a longer listing.
 fn lower_shallow(
     rows: &[u64],
     nodes: &[u64],
@@ -257,12 +329,50 @@ fn lower_shallow(
     requires { ⌜ (Readable (tables-of (now rows) (now nodes) (now lists) counts)) × (all-weights (tables-of (now rows) (now nodes) (now lists) counts) ≤ 128) ⌝ }
     ensures { λ r. ⌜ Answers (of-lowering (tables-of (now (rows .entry)) (now (nodes .entry)) (now (lists .entry)) counts) (length (now (buffer .entry))) (lowered (tables-of (now (rows .entry)) (now (nodes .entry)) (now (lists .entry)) counts))) (now (buffer .entry)) (now (buffer .exit)) r ⌝ }
 {
+    let mut code = [0u8; 8192];
+    let mut store = [0u8; 4096];
     let mut narrowed = [0u64; 256];
     let mut stack = [0u64; 1024];
-    lower_tables(rows, nodes, lists, counts, &mut narrowed, &mut stack, buffer)
+    lower_tables(rows, nodes, lists, counts, &mut code, &mut store, &mut narrowed, &mut stack, buffer)
 }
 
-// One for as many as any ticket has.
+// The same stack, and room for the listing of long values.
+fn lower_wide(
+    rows: &[u64],
+    nodes: &[u64],
+    lists: &[u64],
+    counts: Counts,
+    buffer: &mut [u8],
+) -> Answer
+    requires { ⌜ (Readable (tables-of (now rows) (now nodes) (now lists) counts)) × (all-weights (tables-of (now rows) (now nodes) (now lists) counts) ≤ 128) ⌝ }
+    ensures { λ r. ⌜ Answers (of-lowering (tables-of (now (rows .entry)) (now (nodes .entry)) (now (lists .entry)) counts) (length (now (buffer .entry))) (lowered (tables-of (now (rows .entry)) (now (nodes .entry)) (now (lists .entry)) counts))) (now (buffer .entry)) (now (buffer .exit)) r ⌝ }
+{
+    let mut code = [0u8; 40960];
+    let mut store = [0u8; 4096];
+    let mut narrowed = [0u64; 256];
+    let mut stack = [0u64; 1024];
+    lower_tables(rows, nodes, lists, counts, &mut code, &mut store, &mut narrowed, &mut stack, buffer)
+}
+
+// A stack of 512 records.
+fn lower_middle(
+    rows: &[u64],
+    nodes: &[u64],
+    lists: &[u64],
+    counts: Counts,
+    buffer: &mut [u8],
+) -> Answer
+    requires { ⌜ (Readable (tables-of (now rows) (now nodes) (now lists) counts)) × (all-weights (tables-of (now rows) (now nodes) (now lists) counts) ≤ 512) ⌝ }
+    ensures { λ r. ⌜ Answers (of-lowering (tables-of (now (rows .entry)) (now (nodes .entry)) (now (lists .entry)) counts) (length (now (buffer .entry))) (lowered (tables-of (now (rows .entry)) (now (nodes .entry)) (now (lists .entry)) counts))) (now (buffer .entry)) (now (buffer .exit)) r ⌝ }
+{
+    let mut code = [0u8; 12288];
+    let mut store = [0u8; 8192];
+    let mut narrowed = [0u64; 256];
+    let mut stack = [0u64; 4096];
+    lower_tables(rows, nodes, lists, counts, &mut code, &mut store, &mut narrowed, &mut stack, buffer)
+}
+
+// A stack for as many as any ticket has, and room for a long listing.
 fn lower_deep(
     rows: &[u64],
     nodes: &[u64],
@@ -273,9 +383,35 @@ fn lower_deep(
     requires { ⌜ Readable (tables-of (now rows) (now nodes) (now lists) counts) ⌝ }
     ensures { λ r. ⌜ Answers (of-lowering (tables-of (now (rows .entry)) (now (nodes .entry)) (now (lists .entry)) counts) (length (now (buffer .entry))) (lowered (tables-of (now (rows .entry)) (now (nodes .entry)) (now (lists .entry)) counts))) (now (buffer .entry)) (now (buffer .exit)) r ⌝ }
 {
+    let mut code = [0u8; 65536];
+    let mut store = [0u8; 32768];
     let mut narrowed = [0u64; 256];
     let mut stack = [0u64; 16384];
-    lower_tables(rows, nodes, lists, counts, &mut narrowed, &mut stack, buffer)
+    lower_tables(rows, nodes, lists, counts, &mut code, &mut store, &mut narrowed, &mut stack, buffer)
+}
+
+// The nodes' sizes say how long the listing is likely to be.
+fn lower_larger(
+    rows: &[u64],
+    nodes: &[u64],
+    lists: &[u64],
+    counts: Counts,
+    w: u64,
+    buffer: &mut [u8],
+) -> Answer
+    requires { ⌜ (Readable (tables-of (now rows) (now nodes) (now lists) counts)) × (w ≡ all-weights (tables-of (now rows) (now nodes) (now lists) counts)) ⌝ }
+    ensures { λ r. ⌜ Answers (of-lowering (tables-of (now (rows .entry)) (now (nodes .entry)) (now (lists .entry)) counts) (length (now (buffer .entry))) (lowered (tables-of (now (rows .entry)) (now (nodes .entry)) (now (lists .entry)) counts))) (now (buffer .entry)) (now (buffer .exit)) r ⌝ }
+{
+    if w <= 128 && counts.sizes <= 256 {
+        return lower_shallow(rows, nodes, lists, counts, buffer);
+    }
+    if w <= 128 {
+        return lower_wide(rows, nodes, lists, counts, buffer);
+    }
+    if w <= 512 && counts.sizes <= 768 {
+        return lower_middle(rows, nodes, lists, counts, buffer);
+    }
+    lower_deep(rows, nodes, lists, counts, buffer)
 }
 
 fn lower_counted(
@@ -288,50 +424,111 @@ fn lower_counted(
     requires { ⌜ Readable (tables-of (now rows) (now nodes) (now lists) counts) ⌝ }
     ensures { λ r. ⌜ Answers (of-lowering (tables-of (now (rows .entry)) (now (nodes .entry)) (now (lists .entry)) counts) (length (now (buffer .entry))) (lowered (tables-of (now (rows .entry)) (now (nodes .entry)) (now (lists .entry)) counts))) (now (buffer .entry)) (now (buffer .exit)) r ⌝ }
 {
-    if weights(rows, nodes, lists, counts) <= 128 {
-        lower_shallow(rows, nodes, lists, counts, buffer)
-    } else {
-        lower_deep(rows, nodes, lists, counts, buffer)
+    let w = weights(rows, nodes, lists, counts);
+    if 32 < counts.storages {
+        return lower_larger(rows, nodes, lists, counts, w, buffer);
     }
+    if w <= 32 && counts.sizes <= 64 {
+        return lower_flat(rows, nodes, lists, counts, buffer);
+    }
+    lower_larger(rows, nodes, lists, counts, w, buffer)
 }
 
-// The nodes stand behind the other rows.
+// The nodes' rows begin behind one of each other kind.
 fn lower_rows(rows: &[u64], lists: &[u64], counts: Counts, buffer: &mut [u8]) -> Answer
-    requires { ⌜ (5376 ≤ length (now rows)) × (Readable (tables-of (now rows) (drop 5376 (now rows)) (now lists) counts)) ⌝ }
-    ensures { λ r. ⌜ Answers (of-lowering (tables-of (now (rows .entry)) (drop 5376 (now (rows .entry))) (now (lists .entry)) counts) (length (now (buffer .entry))) (lowered (tables-of (now (rows .entry)) (drop 5376 (now (rows .entry))) (now (lists .entry)) counts))) (now (buffer .entry)) (now (buffer .exit)) r ⌝ }
+    requires { ⌜ (30 ≤ length (now rows)) × (Readable (tables-of (now rows) (drop 30 (now rows)) (now lists) counts)) ⌝ }
+    ensures { λ r. ⌜ Answers (of-lowering (tables-of (now (rows .entry)) (drop 30 (now (rows .entry))) (now (lists .entry)) counts) (length (now (buffer .entry))) (lowered (tables-of (now (rows .entry)) (drop 30 (now (rows .entry))) (now (lists .entry)) counts))) (now (buffer .entry)) (now (buffer .exit)) r ⌝ }
 {
-    let nodes = &rows[5376..];
+    let nodes = &rows[30..];
     lower_counted(rows, nodes, lists, counts, buffer)
 }
 
 // The same of a text, over words lent for its tables.
-fn lower_with(ticket: &[u8], rows: &mut [u64], lists: &mut [u64], buffer: &mut [u8]) -> Answer
-    requires { ⌜ (6912 ≤ length (now rows)) × (length (now ticket) ≤ length (now lists) * 2) ⌝ }
-    ensures { λ r. ⌜ Answers (answer (now (ticket .entry)) (length (now (buffer .entry)))) (now (buffer .entry)) (now (buffer .exit)) r ⌝ }
+fn lower_with(ticket: &[u8], rows: &mut [u64], lists: &mut [u64], buffer: &mut [u8]) -> Tried
+    requires { ⌜ (30 ≤ length (now rows)) × (length (now ticket) ≤ length (now lists) * 2) ⌝ }
+    ensures { λ r. ⌜ Tries (answer (now (ticket .entry)) (length (now (buffer .entry)))) (length (now (rows .entry))) (now (buffer .entry)) (now (buffer .exit)) r ⌝ }
 {
     match read_ticket(ticket, rows, lists) {
-        ReadAnswer::Refused(n, l) => Answer::Refused(n, l),
-        ReadAnswer::Accepted(counts) => lower_rows(rows, lists, counts, buffer),
+        ReadAnswer::Refused(n, l) => Tried::Refused(n, l),
+        ReadAnswer::Accepted(counts) => match lower_rows(rows, lists, counts, buffer) {
+            Answer::Refused(n, l) => Tried::Refused(n, l),
+            Answer::Accepted(n) => Tried::Accepted(n),
+        },
+        ReadAnswer::NoRoom => Tried::NoRoom,
     }
 }
 
-// Words for a short text, which are soon cleared.
-fn lower_short(ticket: &[u8], buffer: &mut [u8]) -> Answer
-    requires { ⌜ length (now ticket) ≤ 2048 ⌝ }
-    ensures { λ r. ⌜ Answers (answer (now (ticket .entry)) (length (now (buffer .entry)))) (now (buffer .entry)) (now (buffer .exit)) r ⌝ }
+// Words for 32 lines of each kind, which are soon cleared.
+fn lower_tiny(ticket: &[u8], buffer: &mut [u8]) -> Tried
+    requires { ⌜ length (now ticket) ≤ 320 ⌝ }
+    ensures { λ r. ⌜ Tries (answer (now (ticket .entry)) (length (now (buffer .entry)))) 1280 (now (buffer .entry)) (now (buffer .exit)) r ⌝ }
 {
-    let mut rows = [0u64; 6912];
+    let mut rows = [0u64; 1280];
+    let mut lists = [0u64; 160];
+    lower_with(ticket, &mut rows, &mut lists, buffer)
+}
+
+// Words for 128 of each.
+fn lower_short(ticket: &[u8], buffer: &mut [u8]) -> Tried
+    requires { ⌜ length (now ticket) ≤ 2048 ⌝ }
+    ensures { λ r. ⌜ Tries (answer (now (ticket .entry)) (length (now (buffer .entry)))) 5120 (now (buffer .entry)) (now (buffer .exit)) r ⌝ }
+{
+    let mut rows = [0u64; 5120];
     let mut lists = [0u64; 1024];
     lower_with(ticket, &mut rows, &mut lists, buffer)
 }
 
-fn lower_long(ticket: &[u8], buffer: &mut [u8]) -> Answer
-    requires { ⌜ length (now ticket) ≤ 65536 ⌝ }
-    ensures { λ r. ⌜ Answers (answer (now (ticket .entry)) (length (now (buffer .entry)))) (now (buffer .entry)) (now (buffer .exit)) r ⌝ }
+// Words for as many as any ticket has.
+fn lower_page(ticket: &[u8], buffer: &mut [u8]) -> Tried
+    requires { ⌜ length (now ticket) ≤ 8192 ⌝ }
+    ensures { λ r. ⌜ Tries (answer (now (ticket .entry)) (length (now (buffer .entry)))) 10280 (now (buffer .entry)) (now (buffer .exit)) r ⌝ }
 {
-    let mut rows = [0u64; 6912];
+    let mut rows = [0u64; 10280];
+    let mut lists = [0u64; 4096];
+    lower_with(ticket, &mut rows, &mut lists, buffer)
+}
+
+fn lower_long(ticket: &[u8], buffer: &mut [u8]) -> Tried
+    requires { ⌜ length (now ticket) ≤ 65536 ⌝ }
+    ensures { λ r. ⌜ Tries (answer (now (ticket .entry)) (length (now (buffer .entry)))) 10280 (now (buffer .entry)) (now (buffer .exit)) r ⌝ }
+{
+    let mut rows = [0u64; 10280];
     let mut lists = [0u64; 32768];
     lower_with(ticket, &mut rows, &mut lists, buffer)
+}
+
+// In the room of that number, or the first behind it whose rows are enough. That it calls itself keeps the rooms' arrays out of its frame.
+fn lower_within(ticket: &[u8], buffer: &mut [u8], room: u64) -> Answer
+    requires { ⌜ length (now ticket) ≤ room-bytes room ⌝ }
+    ensures { λ r. ⌜ Answers (answer (now (ticket .entry)) (length (now (buffer .entry)))) (now (buffer .entry)) (now (buffer .exit)) r ⌝ }
+{
+    let tried = match room {
+        0 => lower_tiny(ticket, buffer),
+        1 => lower_short(ticket, buffer),
+        2 => lower_page(ticket, buffer),
+        _ => lower_long(ticket, buffer),
+    };
+    match tried {
+        Tried::Refused(n, l) => Answer::Refused(n, l),
+        Tried::Accepted(n) => Answer::Accepted(n),
+        Tried::NoRoom => lower_within(ticket, buffer, room + 1),
+    }
+}
+
+// The least room that a text of n bytes is read in.
+fn room_for(n: usize) -> u64
+    requires { ⌜ n ≤ 65536 ⌝ }
+    ensures { λ r. ⌜ n ≤ room-bytes r ⌝ }
+{
+    if n <= 320 {
+        0
+    } else if n <= 2048 {
+        1
+    } else if n <= 8192 {
+        2
+    } else {
+        3
+    }
 }
 
 // The listing of the ticket's lowering, in the buffer, and its length; or the refusal's number and line, and nothing is written.
@@ -341,9 +538,5 @@ pub fn lower(ticket: &[u8], buffer: &mut [u8]) -> Answer
     if 65536 < ticket.len() {
         return Answer::Refused(1, 0);
     }
-    if ticket.len() <= 2048 {
-        lower_short(ticket, buffer)
-    } else {
-        lower_long(ticket, buffer)
-    }
+    lower_within(ticket, buffer, room_for(ticket.len()))
 }

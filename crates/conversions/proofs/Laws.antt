@@ -1,9 +1,9 @@
 -- What conversions leave: a new temporary that is filled, masked or not, and read. Assumes nothing.
-use mathlib.Core.Path.{_≡_, refl, sym, ap, subst, _∙_}
+use mathlib.Core.Path.{_≡_, refl, sym, ap, _∙_}
 use mathlib.Core.Bool.{Bool, true, false, false≢true}
 use mathlib.Core.List.{List, [], _∷_}
-use mathlib.Core.Option.{Option, none, some}
-use Prim.Native.Nat.{ℕ, zero, suc, _+_, _%_, _≤_, _<_}
+use mathlib.Core.Option.{none, some}
+use Prim.Native.Nat.{ℕ, zero, suc, _+_, _≤_, _<_}
 use native.Mathlib.Omega.{arith}
 use lib.Dec.{ltb}
 use borrow.Author.Tests.{lt-ltb, le-ltb, eq-eqb, ne-eqb}
@@ -11,17 +11,17 @@ use lib.ListN.{length, take, List·getD-eq-default}
 use Rattle.text.specs.Put.{last}
 use Rattle.spec.specs.Hir as hir
 use Rattle.spec.specs.Ticket as ticket
-use Rattle.spec.specs.Ticket.{TypeWord, tUnit, tBool, tBits, tFloat, tPointer, tArray, tStruct, tTuple, tOpaque, Tables, typeAt}
+use Rattle.spec.specs.Ticket.{Tables, typeAt}
 use Rattle.spec.specs.Readable.{Readable}
 use Rattle.spec.specs.Lir.{ByteStorage, ByteOperand, immediate, BitOperand, InstructionKind, Value, value, bytes-value, copy-byte, sign-extend}
 use Rattle.spec.specs.Monad.{Lower, Out, Outcome, done, refused, nothing, prepend, bind-to, _>>=_, _>>_, pure, emit, emits, or-refuse}
 use Rattle.spec.specs.Monad as monad
 use Rattle.spec.specs.Operands.{value-type, value-repr, repr-bytes, repr-bit, value-bytes, value-bit, resize}
 use Rattle.spec.specs.Operators.{ConversionForm, resizing, extending-sign, reinterpreting, from-boolean, to-boolean, of-float, conversion-form}
-use Rattle.spec.specs.Allocation.{Location, type-size, width-of, bits-of, integer-width, odd-bits, allocate-storage, allocate-temporary, bytes-at, location-bytes}
+use Rattle.spec.specs.Allocation.{Location, type-size, integer-width, odd-bits, allocate-storage, allocate-temporary, bytes-at, location-bytes}
 use Rattle.spec.specs.Arithmetic.{zip2, masks, mask-location}
 use Rattle.spec.specs.ReadBytes.{read-location}
-use Rattle.spec.specs.Conversions.{bit-to-bytes, normalized-bytes, resized, sign-extended, boolean-to-integer, integer-to-bool, reinterpreted, lower-conversion}
+use Rattle.spec.specs.Conversions.{bit-to-bytes, normalized-bytes, resized, sign-extended, boolean-to-integer, integer-to-bool, lower-conversion}
 use Rattle.spec.proofs.CostWrites.{masks-length}
 use Rattle.lir.specs.Abstract.{tab, byte-at, bytes-of, bit-operand-of, destinations-of, source-reach}
 use Rattle.lir.specs.PutFields.{length-tab}
@@ -31,13 +31,12 @@ use Rattle.lir.specs.declared.Source.{Source}
 use Rattle.lir.specs.declared.StorageId.{StorageId}
 use Rattle.lir.specs.declared.Destinations.{Destinations}
 use Rattle.emission.specs.declared.Counters.{Counters}
-use Rattle.emission.specs.declared.Allocated.{Allocated}
 use Rattle.emission.specs.declared.Temporary.{Temporary}
 use Rattle.emission.specs.declared.Width.{Width}
-use Rattle.emission.specs.Appends.{texts, counters-of, room-less}
+use Rattle.emission.specs.Appends.{counters-of, room-less}
 use Rattle.emission.specs.Emits.{Emits, Allocates, room-emitted, room-allocated}
-use Rattle.emission.specs.Does.{Does, Refuses, does-emits, does-allocate}
-use Rattle.emission.specs.Forms.{HasWidth, width-option}
+use Rattle.emission.specs.Does.{Refuses, does-emits, does-allocate}
+use Rattle.emission.specs.Forms.{HasWidth, prepend-nothing}
 use Rattle.emission.specs.Loops.{copy-table, bit-table}
 use Rattle.emission.specs.Temporaries.{location, temporary-by, MeetsTemporary}
 use Rattle.tables.specs.declared.Counts.{Counts}
@@ -46,11 +45,11 @@ use Rattle.tables.proofs.Laws.{size-here}
 use Rattle.values.specs.declared.State.{State}
 use Rattle.values.specs.declared.Value.{Value as Val}
 use Rattle.values.specs.declared.Lowered.{Lowered}
-use Rattle.values.specs.Left.{Bufs, bufs, counters-in, Left, case-value, MeetsValue}
-use Rattle.values.specs.Laws.{Placed, prepend-prepend, left-then}
+use Rattle.values.specs.Left.{Bufs, bufs, counters-in, MeetsValue}
+use Rattle.values.specs.Laws.{Placed, prepend-prepend, does-meets, next-meets}
 use Rattle.reads.specs.declared.At.{At}
 use Rattle.reads.specs.Reading.{TypeRoom, StepRoom}
-use Rattle.steps.proofs.Laws.{left-does, value-stops}
+use Rattle.steps.proofs.Laws.{value-stops}
 use Rattle.conversions.specs.Converting.{Resizes, Fills, Reinterprets, RoomFor, byte-temporary, masked, copied, extended, flagged, copied-new, extended-new, flagged-new, retyped, reinterpreted-of}
 
 -- ---------------------------------------------------------------- bytes resized
@@ -89,25 +88,6 @@ take-resize (suc n) [] h = absurd (omega arith)
 take-resize (suc n) (b ∷ bs) h = ap (λ (l : List ByteOperand). b ∷ l) (take-resize n bs (omega arith))
 
 -- ---------------------------------------------------------------- widths and sizes
-
-abbrev odd-option : Option ℕ → ℕ
-odd-option none = 0
-odd-option (some w) = w % 8
-
-odd-words : (k : TypeWord) (xs : List ℕ) → bits-of k xs % 8 ≡ odd-option (width-of k xs)
-odd-words tUnit xs = refl
-odd-words tBool xs = refl
-odd-words tBits xs = refl
-odd-words tFloat xs = refl
-odd-words tPointer xs = refl
-odd-words tArray xs = refl
-odd-words tStruct xs = refl
-odd-words tTuple xs = refl
-odd-words tOpaque xs = refl
-
-pub odd-width : {T : Tables} {ty : ℕ} {w : Width} → HasWidth T ty w → odd-bits T ty ≡ odd-option (width-option w)
-unfolding odd-bits
-odd-width {T} {ty} h = odd-words ((typeAt T ty) .word) ((typeAt T ty) .args) ∙ ap odd-option (h .is)
 
 pub fills : (rows nodes lists : List ℕ) (c : Counts) (id : StorageId) (ty : ℕ) {k : ℕ} → Readable (tables-of rows nodes lists c) → k ≡ size-at rows c ty
     → Fills (tables-of rows nodes lists c) (id .0) ty (record { storage = id; count = k })
@@ -154,25 +134,6 @@ module _ {T : Tables} {ty : ℕ} {s : State} {stack l l1 : List ℕ} {c1 : Count
 
 -- ---------------------------------------------------------------- a step that appends, and then one that answers a value
 
-then-case : {b : Bufs} {s : State} {cs : monad.Counters} {o : Out} {b1 : Bufs} {s1 : State} → Left b s [] cs o b1 s1
-    → (x : Outcome Value) (b2 : Bufs) (r : Lowered) → case-value b1 s1 x b2 r → case-value b s (prepend o x) b2 r
-then-case a (done v t p) b2 (Lowered.Done y s2) k = (k .0, k .1, left-then a (k .2))
-then-case a (done v t p) b2 (Lowered.Refused i j) k = k
-then-case a (refused i j) b2 (Lowered.Done y s2) k = k
-then-case a (refused i j) b2 (Lowered.Refused i′ j′) k = k
-
-module _ {A : Type 0} {n : ℕ} {code store code1 store1 : List ℕ} {s : State} {m : Lower A} {a : A} {c1 : Counters} {b2 : Bufs} {r : Lowered} (h : hir.At) (ns stack : List ℕ)
-    (d : Does n (texts code store) (s .counters) m a (texts code1 store1) c1) where
-  pub does-meets : (f : A → Lower Value) → MeetsValue (bufs code1 store1 ns stack) (record { counters = c1; top = s .top }) (f a h (counters-of c1)) b2 r
-      → MeetsValue (bufs code store ns stack) s ((m >>= f) h (counters-in s)) b2 r
-  unfolding _>>=_
-  does-meets f k = rw (d .is h) (record { shown = then-case (left-does {s = s} ns stack h d) (f a h (counters-of c1)) b2 r (k .shown) })
-
-  pub next-meets : (p : Lower Value) → MeetsValue (bufs code1 store1 ns stack) (record { counters = c1; top = s .top }) (p h (counters-of c1)) b2 r
-      → MeetsValue (bufs code store ns stack) s ((m >> p) h (counters-in s)) b2 r
-  unfolding _>>_
-  next-meets p k = rw (d .is h) (record { shown = then-case (left-does {s = s} ns stack h d) (p h (counters-of c1)) b2 r (k .shown) })
-
 module _ {code code1 store : List ℕ} {s : State} {c1 : Counters} {b2 : Bufs} {r : Lowered} (h : hir.At) (ns stack : List ℕ) (x : length store ≤ last) (y : s .counters .stored ≤ last) where
   -- instructions, and then the rest
   pub emits-meets : {ks : List InstructionKind} (p : Lower Value) → Emits code (s .counters) ks code1 c1
@@ -206,13 +167,6 @@ module _ {code code1 store : List ℕ} {s : State} {c1 : Counters} {b2 : Bufs} {
     flag-meets b e k = rw (f .is) (emits-meets (read-location T (location (id .0) ty)) e k)
 
 -- ---------------------------------------------------------------- a new temporary
-
-pub placed : {l l1 : List ℕ} {c : Counters} {m : Lower Location} {ty : ℕ} {r : Temporary} {a : Allocated} → MeetsTemporary l c m ty l1 r → r ≡ Temporary.Placed a
-    → Allocates l c m (location (a .id .0) ty) l1 (a .counters)
-placed {l} {l1} {c} {m} {ty} {r} {a} k e = subst (λ (z : Temporary). temporary-by l c m ty l1 z) e (k .shown)
-
-pub not-placed : {l l1 : List ℕ} {c : Counters} {m : Lower Location} {ty : ℕ} {r : Temporary} {n : ℕ} → MeetsTemporary l c m ty l1 r → r ≡ Temporary.Refused n → Refuses c m n
-not-placed {l} {l1} {c} {m} {ty} {r} {n} k e = subst (λ (z : Temporary). temporary-by l c m ty l1 z) e (k .shown)
 
 -- a storage, and then the rest
 pub new-meets : {code store store1 : List ℕ} {s : State} {m : Lower Location} {l : Location} {c1 : Counters} {b2 : Bufs} {r : Lowered} (h : hir.At) (ns stack : List ℕ) (f : Location → Lower Value)
@@ -251,10 +205,6 @@ pub byte-meets : {l l1 : List ℕ} {c : Counters} {r : Temporary} (T : Tables) (
 byte-meets {l} {l1} {c} {r} T ty z k = record { shown = byte-case l l1 c T ty z r (k .shown) }
 
 -- ---------------------------------------------------------------- from the definitions to these steps
-
-pub prepend-nothing : {A : Type 0} (o : Outcome A) → prepend nothing o ≡ o
-prepend-nothing (refused n l) = refl
-prepend-nothing (done a c p) = refl
 
 module _ (T : Tables) (h : hir.At) (g : Location → List ByteStorage → Lower Value) where
   bytes-by : (s o ty : ℕ) (b : Bool) (p : Out) (c : monad.Counters) → (let t : Location = record { storage = s; offset = o; ty = ty; is-bit = b } in
@@ -343,10 +293,6 @@ module _ (T : Tables) (op : hir.ConversionOp) (v : Value) (ty : ℕ) (h : hir.At
   pub convert-sign : conversion-form op ≡ extending-sign → lower-conversion T op v ty h c ≡ sign-extended T v ty h c
   unfolding lower-conversion
   convert-sign e = rw e
-
-  pub convert-reinterpret : conversion-form op ≡ reinterpreting → lower-conversion T op v ty h c ≡ reinterpreted T v ty h c
-  unfolding lower-conversion
-  convert-reinterpret e = rw e
 
   pub convert-from-boolean : conversion-form op ≡ from-boolean → lower-conversion T op v ty h c ≡ boolean-to-integer T v ty h c
   unfolding lower-conversion

@@ -27,7 +27,7 @@ use Rattle.emission.specs.Appends.{texts, counters-of}
 use Rattle.emission.specs.Emits.{Emits, Allocates}
 use Rattle.emission.specs.Does.{Does, out, does-then, does-allocate, does-allocating}
 use Rattle.emission.specs.Operands.{length-bytes}
-use Rattle.emission.specs.Forms.{adds-few}
+use Rattle.emission.specs.Forms.{prepend-nothing, adds-few}
 use Rattle.emission.specs.Temporaries.{location, place-sized}
 use Rattle.values.specs.declared.State.{State}
 use Rattle.values.specs.declared.Lowered.{Lowered}
@@ -35,7 +35,7 @@ use Rattle.values.specs.Left.{bufs, counters-in, MeetsValue}
 use Rattle.steps.specs.Steps.{pointer-in}
 use Rattle.steps.proofs.Pointers.{pointer-of, pointer-size, pointer-read, pointer-meets}
 use Rattle.conversions.specs.Converting.{Resizes, offset-by, offset-bytes}
-use Rattle.conversions.proofs.Laws.{prepend-nothing, take-resize}
+use Rattle.conversions.proofs.Laws.{take-resize}
 
 -- the two bytes of the storage s
 abbrev two : StorageId → Destinations

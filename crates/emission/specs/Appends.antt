@@ -1,7 +1,7 @@
 -- What a step appends: storages and instructions, as texts behind those that stand there, with the counters advanced.
-use mathlib.Core.Path.{_≡_, refl, ap}
+use mathlib.Core.Path.{_≡_, refl}
 use mathlib.Core.List.{List, [], _∷_, _++_, map, append-assoc, append-nil}
-use Prim.Native.Nat.{ℕ, suc, _+_, _≤_}
+use Prim.Native.Nat.{ℕ, _+_, _≤_}
 use native.Mathlib.Omega.{arith}
 use lib.ListN.{length, length-append}
 use Rattle.spec.specs.Hir.{At}
@@ -99,7 +99,3 @@ made-map h (k ∷ ks) = rw (made-map h ks)
 pub made-append : (h : At) (ks ls : List InstructionKind) → made-all h (ks ++ ls) ≡ made-all h ks ++ made-all h ls
 made-append h [] ls = refl
 made-append h (k ∷ ks) ls = rw (made-append h ks ls)
-
-pub length-made : (h : At) (ks : List InstructionKind) → length (made-all h ks) ≡ length ks
-length-made h [] = refl
-length-made h (k ∷ ks) = ap suc (length-made h ks)

@@ -8,10 +8,11 @@ use Rattle.spec.specs.Hir.{At}
 use Rattle.spec.specs.Lir.{InstructionKind, Storage}
 use Rattle.spec.specs.Monad.{Lower, done, refused, Out, _>>=_, _>>_, pure, emits, made-all}
 use Rattle.spec.specs.Monad as monad
+use Rattle.spec.proofs.Lengths.{length-made}
 use Rattle.text.specs.Put.{last}
 use Rattle.emission.specs.declared.Counters.{Counters}
 use Rattle.emission.specs.declared.Emitted.{Emitted}
-use Rattle.emission.specs.Appends.{Texts, texts, counters-of, Appends, Positions, Room, append-none, append-then, room-after, made-append, length-made}
+use Rattle.emission.specs.Appends.{Texts, texts, counters-of, Appends, Positions, Room, append-none, append-then, room-after, made-append}
 use Rattle.emission.specs.Emits.{Emits, Allocates, emitted, allocated, allocated-emitted}
 
 abbrev pub out : List Storage → List InstructionKind → At → Out

@@ -9,10 +9,11 @@ use Rattle.spec.specs.Hir.{At}
 use Rattle.spec.specs.Lir.{InstructionKind, Storage}
 use Rattle.spec.specs.Print.{each, instruction-line, storage-line}
 use Rattle.spec.specs.Monad.{Lower, done, made-all}
+use Rattle.spec.proofs.Lengths.{length-made}
 use Rattle.text.specs.Put.{Put, then, none, last}
 use Rattle.lir.specs.Abstract.{tab}
 use Rattle.emission.specs.declared.Counters.{Counters}
-use Rattle.emission.specs.Appends.{texts, counters-of, Appends, Room, each-append, each-one, length-made}
+use Rattle.emission.specs.Appends.{texts, counters-of, Appends, Room, each-append, each-one}
 use Rattle.lir.specs.PutFields.{tab-more}
 
 abbrev pub kind-line : InstructionKind → List ℕ

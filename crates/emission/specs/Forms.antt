@@ -1,19 +1,19 @@
 -- The forms of `binary-instructions` and `unary-instructions`, and the part of comparing behind `integer-width` and `value-bytes`.
-use mathlib.Core.Path.{_≡_, refl}
+use mathlib.Core.Path.{_≡_, refl, ap, _∙_}
 use mathlib.Core.List.{List, [], _∷_}
 use mathlib.Core.Option.{Option, none, some}
-use Prim.Native.Nat.{ℕ, _+_, _≤_}
+use Prim.Native.Nat.{ℕ, _+_, _%_, _≤_}
 use native.Mathlib.Omega.{arith}
 use lib.ListN.{length, replicate}
 use Rattle.spec.specs.Hir as hir
 use Rattle.spec.specs.Lir as lir
 use Rattle.spec.specs.Lir.{ByteOperand, Purpose, Value, value, bit-value, stored-bit, immediate, compare-bytes}
-use Rattle.spec.specs.Ticket.{Tables, typeAt}
+use Rattle.spec.specs.Ticket.{TypeWord, tUnit, tBool, tBits, tFloat, tPointer, tArray, tStruct, tTuple, tOpaque, Tables, typeAt}
 use Rattle.spec.specs.Monad.{Lower, Outcome, done, refused, nothing, prepend, _>>=_, _>>_, pure, emit, emits, or-refuse}
 use Rattle.spec.specs.Monad as monad
 use Rattle.spec.specs.Operands.{value-type, value-repr, repr-bytes, value-bytes}
 use Rattle.spec.specs.Operators.{UnaryForm, negating, inverting, counting, BinaryForm, adding, subtracting, bytewise, shifting, whole, compare-op}
-use Rattle.spec.specs.Allocation.{bool-type, width-of, integer-width, allocate-carry, allocate-bit-temporary}
+use Rattle.spec.specs.Allocation.{bool-type, bits-of, width-of, odd-bits, integer-width, allocate-carry, allocate-bit-temporary}
 use Rattle.spec.specs.Arithmetic.{adds, subtracts, negates, zip2, zip3, binary-instructions, unary-instructions}
 use Rattle.spec.specs.Conversions.{lower-compare, not-zero}
 use Rattle.text.specs.Put.{last}
@@ -54,6 +54,28 @@ width-option (Width.Found w) = some w
 -- w is what `integer-width` finds of the type ty
 pub record HasWidth (T : Tables) (ty : ℕ) (w : Width) : Type 0 where
   pub is : width-of ((typeAt T ty) .word) ((typeAt T ty) .args) ≡ width-option w
+
+-- ---------------------------------------------------------------- the bits past the whole bytes
+
+abbrev pub odd-option : Option ℕ → ℕ
+odd-option none = 0
+odd-option (some w) = w % 8
+
+odd-words : (k : TypeWord) (xs : List ℕ) → bits-of k xs % 8 ≡ odd-option (width-of k xs)
+odd-words tUnit xs = refl
+odd-words tBool xs = refl
+odd-words tBits xs = refl
+odd-words tFloat xs = refl
+odd-words tPointer xs = refl
+odd-words tArray xs = refl
+odd-words tStruct xs = refl
+odd-words tTuple xs = refl
+odd-words tOpaque xs = refl
+
+-- a pointer's sixteen bits are no odd ones
+pub odd-width : {T : Tables} {ty : ℕ} {w : Width} → HasWidth T ty w → odd-bits T ty ≡ odd-option (width-option w)
+unfolding odd-bits
+odd-width {T} {ty} h = odd-words ((typeAt T ty) .word) ((typeAt T ty) .args) ∙ ap odd-option (h .is)
 
 -- ---------------------------------------------------------------- lists' lengths
 
@@ -142,7 +164,7 @@ comparing-zero purpose width left = do
   emit (compare-bytes lir.not-equal width destination left (replicate (length left) (immediate 0)))
   pure destination
 
-prepend-nothing : {A : Type 0} (o : Outcome A) → prepend nothing o ≡ o
+pub prepend-nothing : {A : Type 0} (o : Outcome A) → prepend nothing o ≡ o
 prepend-nothing (refused n l) = refl
 prepend-nothing (done a c p) = refl
 

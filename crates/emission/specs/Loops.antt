@@ -14,6 +14,7 @@ use Rattle.spec.specs.Operands.{all-immediate, lowest-byte}
 use Rattle.spec.specs.Operators.{rotate-direction, opposite}
 use Rattle.spec.specs.Arithmetic.{zip2, zip3, carry-in, carry-out, adds, subtracts, negates, rotates, byte-rotates, first-storage, first-operand, byte-rotate, shifts}
 use Rattle.spec.specs.Conversions.{bit-to-bytes}
+use Rattle.spec.proofs.Lengths.{length-bytes-from, length-rotates}
 use Rattle.lir.specs.Abstract.{tab, byte-at, bytes-of, destinations-of, byte-operand-of, bit-operand-of, byte-binary-op-of, rotate-direction-of}
 use Rattle.lir.specs.declared.StorageId.{StorageId}
 use Rattle.lir.specs.declared.ByteOperand.{ByteOperand}
@@ -23,8 +24,8 @@ use Rattle.lir.specs.declared.Destinations.{Destinations}
 use Rattle.lir.specs.declared.ByteBinaryOp.{ByteBinaryOp}
 use Rattle.lir.specs.declared.RotateDirection.{RotateDirection}
 use Rattle.emission.specs.declared.Bytewise.{Bytewise}
-use Rattle.lir.specs.PutFields.{spot, length-tab}
-use Rattle.emission.specs.Tabs.{tab-same, length-from, zip2-tab, zip3-tab, bit-tab, rotates-tab}
+use Rattle.lir.specs.PutFields.{spot}
+use Rattle.emission.specs.Tabs.{tab-same, zip2-tab, zip3-tab, bit-tab, rotates-tab}
 use Rattle.emission.specs.Kinds.{byte-kind, zero-bytes}
 
 module _ (d : Destinations) (l r : Bytes) where
@@ -33,14 +34,14 @@ module _ (d : Destinations) (l r : Bytes) where
   unfolding adds bytes-of
   adds-table k =
       zip3-tab (λ i x a b. lir.add x a b (carry-in (k .0) i) (carry-out (k .0) (length (destinations-of d)) i)) (byte-at l) (byte-at r) (d .storage .0) (d .count) (l .total) (r .total)
-      ∙ tab-same _ _ 0 _ (λ i h. rw length-from)
+      ∙ tab-same _ _ 0 _ (λ i h. rw length-bytes-from)
 
   pub subtracts-table : (k : StorageId)
       → subtracts (k .0) (destinations-of d) (bytes-of l) (bytes-of r) ≡ tab (byte-kind d (Bytewise.Subtract l r k)) 0 (min (d .count) (min (l .total) (r .total)))
   unfolding subtracts bytes-of
   subtracts-table k =
       zip3-tab (λ i x a b. lir.subtract x a b (carry-in (k .0) i) (carry-out (k .0) (length (destinations-of d)) i)) (byte-at l) (byte-at r) (d .storage .0) (d .count) (l .total) (r .total)
-      ∙ tab-same _ _ 0 _ (λ i h. rw length-from)
+      ∙ tab-same _ _ 0 _ (λ i h. rw length-bytes-from)
 
   pub binary-table : (op : ByteBinaryOp)
       → zip3 (λ i x a b. lir.byte-binary (byte-binary-op-of op) x a b) 0 (destinations-of d) (bytes-of l) (bytes-of r)
@@ -55,7 +56,7 @@ module _ (d : Destinations) (b : Bytes) where
   unfolding negates bytes-of
   negates-table k =
       zip2-tab (λ i x a. lir.subtract x (lir.immediate 0) a (carry-in (k .0) i) (carry-out (k .0) (length (destinations-of d)) i)) (byte-at b) (d .storage .0) (d .count) (b .total)
-      ∙ tab-same _ _ 0 _ (λ i h. rw (length-from, le-ltb i 0 (omega arith)))
+      ∙ tab-same _ _ 0 _ (λ i h. rw (length-bytes-from, le-ltb i 0 (omega arith)))
 
   pub not-table : zip2 (λ i x a. lir.not-byte x a) 0 (destinations-of d) (bytes-of b) ≡ tab (byte-kind d (Bytewise.Not b)) 0 (min (d .count) (b .total))
   unfolding bytes-of
@@ -120,9 +121,6 @@ module _ (op : lir.ShiftOp) (w : ℕ) (ds : List lir.ByteStorage) (l r : List li
 
 -- ---------------------------------------------------------------- how many
 
-length-rotates : (dir : lir.RotateDirection) (d : lir.ByteStorage) (x : lir.ByteOperand) (n : ℕ) → length (rotates dir d x n) ≡ n
-length-rotates dir d x n = rw rotates-tab (length-tab _ 0 n)
-
 turned-few : (dir : lir.RotateDirection) (d : lir.ByteStorage) (x : lir.ByteOperand) (n : ℕ) → n < 8 → length (byte-rotates dir d x n) ≤ 4
 turned-few dir d x n h = go (eqb n 0) refl (leb n 4) refl
   where
@@ -143,6 +141,6 @@ shifts-few op w d l r = go (rotate-direction op) refl (byte-rotate w (destinatio
     go (some dir) e false f = rw (shift-whole op w (destinations-of d) l r dir e f) (omega arith)
     go (some dir) e true f =
         let one = turned-one op w (destinations-of d) l r f in
-        let count = length-from (d .storage .0) 0 (d .count) in
+        let count = length-bytes-from (d .storage .0) 0 (d .count) in
         let four = turned-few dir (first-storage (destinations-of d)) (first-operand l) (lowest-byte r % 8) (omega arith) in
         rw (shift-turned op w (destinations-of d) l r dir e f) (omega (arith, one .0))

@@ -7,7 +7,6 @@ use native.Mathlib.Omega.{arith}
 use native.Mathlib.Nat.{add-zero}
 use lib.Dec.{eqb}
 use borrow.Author.Tests.{ne-eqb}
-use lib.ListN.{length}
 use Rattle.spec.specs.Lir.{ByteStorage, ByteOperand, BitOperand, immediate, stored, InstructionKind, RotateDirection, rotate, byte-binary, bit-to-byte, copy-byte}
 use Rattle.spec.specs.Lir as lir
 use Rattle.spec.specs.Allocation.{bytes-from}
@@ -21,11 +20,6 @@ pub tab-same : {A : Type 0} (f g : ℕ → A) (j n : ℕ) → ((i : ℕ) → j �
 unfolding tab
 tab-same f g j zero h = refl
 tab-same f g j (suc n) h = rw (h j (omega arith), tab-same f g (suc j) n (λ i k. h i (omega arith)))
-
-pub length-from : (s o n : ℕ) → length (bytes-from s o n) ≡ n
-unfolding bytes-from
-length-from s o zero = refl
-length-from s o (suc n) = ap suc (length-from s (suc o) n)
 
 -- ---------------------------------------------------------------- zips stop at the shortest list
 

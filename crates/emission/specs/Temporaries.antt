@@ -1,5 +1,5 @@
 -- What allocating a temporary of a type answers.
-use mathlib.Core.Path.{_≡_, refl}
+use mathlib.Core.Path.{_≡_, refl, subst}
 use mathlib.Core.List.{List}
 use Prim.Native.Nat.{ℕ, zero, suc}
 use native.Mathlib.Omega.{arith}
@@ -10,6 +10,7 @@ use Rattle.spec.specs.Lir as lir
 use Rattle.spec.specs.Monad.{Lower, _>>=_}
 use Rattle.spec.specs.Allocation.{Location, allocate-storage, allocate-sized, allocate-temporary, type-size, bool-regions, temporary-regions}
 use Rattle.emission.specs.declared.Counters.{Counters}
+use Rattle.emission.specs.declared.Allocated.{Allocated}
 use Rattle.emission.specs.declared.Temporary.{Temporary}
 use Rattle.emission.specs.Emits.{Allocates}
 use Rattle.emission.specs.Does.{Refuses}
@@ -26,6 +27,14 @@ pub record MeetsTemporary (l : List ℕ) (c : Counters) (m : Lower Location) (ty
   pub shown : temporary-by l c m ty l′ r
 
 -- ---------------------------------------------------------------- laws
+
+-- which outcome it was
+module _ {l l1 : List ℕ} {c : Counters} {m : Lower Location} {ty : ℕ} {r : Temporary} (x : MeetsTemporary l c m ty l1 r) where
+  pub temporary-placed : {a : Allocated} → r ≡ Temporary.Placed a → Allocates l c m (location (a .id .0) ty) l1 (a .counters)
+  temporary-placed e = subst (λ (z : Temporary). temporary-by l c m ty l1 z) e (x .shown)
+
+  pub temporary-refused : {k : ℕ} → r ≡ Temporary.Refused k → Refuses c m k
+  temporary-refused e = subst (λ (z : Temporary). temporary-by l c m ty l1 z) e (x .shown)
 
 module _ {l l1 : List ℕ} {c c1 : Counters} {s : ℕ} where
   pub place-bit : (T : Tables) (ty : ℕ) → ty ≡ 0 → Allocates l c (allocate-storage lir.bit lir.tmp bool-regions) s l1 c1 → Allocates l c (allocate-temporary T ty) (location s ty) l1 c1

@@ -222,6 +222,28 @@ pub fn emit(code: &mut [u8], c: Counters, kind: InstructionKind) -> Counters
     }
 }
 
+// As `emit` of a SelectByte: there are as many of them as a value has bytes, so none is made first.
+pub fn emit_select_byte(
+    code: &mut [u8],
+    c: Counters,
+    d: ByteStorage,
+    condition: BitOperand,
+    t: ByteOperand,
+    f: ByteOperand,
+) -> Counters
+    requires { ⌜ Room 1 c ⌝ }
+    ensures { λ r. ⌜ Emits (now (code .entry)) c (kind-of (InstructionKind.SelectByte d condition t f) ∷ []) (now (code .exit)) r ⌝ }
+{
+    let at = lir::print_select_byte(code, c.at, d, condition, t, f);
+    Counters {
+        at,
+        instructions: c.instructions + 1,
+        stored: c.stored,
+        storage: c.storage,
+        temporary: c.temporary,
+    }
+}
+
 // ---------------------------------------------------------------- an instruction for each byte
 
 // What is done byte by byte; sums and differences go through a carry. A turn is of the first byte, again and again.
@@ -347,7 +369,7 @@ fn zero_bytes(n: u64) -> Bytes
     }
 }
 
-fn lesser(a: u64, b: u64) -> u64
+pub fn lesser(a: u64, b: u64) -> u64
     ensures { λ r. ⌜ r ≡ min a b ⌝ }
 {
     if a < b { a } else { b }

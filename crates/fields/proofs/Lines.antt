@@ -1,16 +1,16 @@
 -- From field to field: a number, the numbers to a line's end, the place of a word.
 -- Assumes nothing.
 use mathlib.Core.Path.{_≡_, refl, sym, ap, _∙_}
-use mathlib.Core.Bool.{Bool, true, false}
+use mathlib.Core.Bool.{Bool, true, false, _&&_}
 use mathlib.Core.List.{List, [], _∷_, _++_, append-assoc, append-nil}
 use mathlib.Core.Option.{Option, none, some}
-use mathlib.Core.Logic.{_≢_}
-use Prim.Native.Nat.{ℕ, zero, suc, _+_, _-_, _*_, _≤_, _<_}
+use Prim.Native.Nat.{ℕ, suc, _+_, _-_, _*_, _≤_, _<_}
 use native.Mathlib.Omega.{arith}
-use native.Mathlib.Numerals.{add-one}
 use native.Mathlib.Nat.{add-zero, zero-add}
-use lib.ListN.{length, getD, take, drop, set, length-take, length-drop}
-use lib.Seq.{length-take-le, getD-set-other}
+use lib.Dec.{eqb}
+use borrow.Author.Tests.{eqb-true}
+use lib.ListN.{length, take, drop, set, length-drop}
+use lib.Seq.{length-take-le}
 use Rattle.spec.specs.Text.{split, comma, number, numeral, good-start, same}
 use Rattle.tables.specs.Tables.{tab, run}
 use Rattle.fields.specs.Fields.{
@@ -20,20 +20,18 @@ use Rattle.fields.specs.Fields.{
   Taken,
   taken,
   first-number,
-  decimalOf,
   NumberAt,
   cons-number,
   numbers-of,
   onto,
-  listedOf,
   Kept,
   Listing,
   position,
   added,
   placeOf,
-  first-word,
-  wordOf,
   WordAt,
+  Tried,
+  Same,
 }
 use Rattle.fields.specs.declared.Cursor.{Cursor}
 use Rattle.fields.specs.declared.Parsed.{Parsed}
@@ -42,12 +40,10 @@ use Rattle.fields.specs.declared.Decimal.{Decimal}
 use Rattle.fields.specs.declared.Decimal.the-variants.{Value, Malformed}
 use Rattle.fields.specs.declared.Place.{Place}
 use Rattle.fields.specs.declared.Place.the-variants.{At, Nowhere}
-use Rattle.fields.specs.declared.Keyword.{Keyword}
 use Rattle.fields.specs.declared.Keyword.the-variants.{Word, Unknown}
-use Rattle.fields.specs.declared.Listed.{Listed}
 use Rattle.fields.specs.declared.Listed.the-variants.{Numbers, Broken}
 use Rattle.fields.proofs.Marks.{fields-first, fields-none, fields-start, fields-some}
-use Rattle.fields.proofs.Tabs.{run-put}
+use Rattle.fields.proofs.Tabs.{run-put, kept-put, kept-all, length-put}
 
 -- ---------------------------------------------------------------- a number at a position
 
@@ -114,7 +110,7 @@ unfolding onto
 onto-none none = refl
 onto-none (some ys) = refl
 
-pub list-start : (s ls : List ℕ) (used p : ℕ) → numbers-of (fields-from s p) ≡ onto (run ls used 0) (numbers-of (fields-from s p))
+list-start : (s ls : List ℕ) (used p : ℕ) → numbers-of (fields-from s p) ≡ onto (run ls used 0) (numbers-of (fields-from s p))
 unfolding tab run
 list-start s ls used p = onto-none (numbers-of (fields-from s p))
 
@@ -123,20 +119,68 @@ pub value-ahead : (s : List ℕ) (p : ℕ) (r : Decimal) (v : ℕ) (c : Cursor) 
 value-ahead s p r v c n g = (rw g at n) .ahead
 
 module _ (o : Option (List ℕ)) (s ls : List ℕ) (used n p : ℕ) (q : o ≡ onto (run ls used n) (numbers-of (fields-from s p))) where
-  pub list-end : length s < p → some (run ls used n) ≡ o
+  list-end : length s < p → some (run ls used n) ≡ o
   unfolding numbers-of onto
   list-end h = sym (q ∙ rw (fields-none s p h, append-nil (run ls used n)))
 
-  pub list-broken : (r : Decimal) → p ≤ length s → NumberAt s p r → r ≡ Malformed → none ≡ o
+  list-broken : p ≤ length s → NumberAt s p Malformed → none ≡ o
   unfolding onto
-  list-broken r h a g =
-      sym (q ∙ rw (first-none (fields-from s p) (fields-some s p h) (ap (decimalOf s) (sym g) ∙ a .answer)))
+  list-broken h a = sym (q ∙ rw (first-none (fields-from s p) (fields-some s p h) (a .answer)))
 
-  pub list-more : (r : Decimal) (v : ℕ) (c : Cursor) → NumberAt s p r → r ≡ Value v c → used + n < length ls
+  list-more : (v : ℕ) (c : Cursor) → NumberAt s p (Value v c) → used + n < length ls
       → o ≡ onto (run (set ls (used + n) v) used (n + 1)) (numbers-of (fields-from s (c .at)))
-  list-more r v c a g l =
-      q ∙ rw (first-some (fields-from s p) v (fields-from s (c .at)) (ap (decimalOf s) (sym g) ∙ a .answer), run-put ls used n v l)
+  list-more v c a l =
+      q ∙ rw (first-some (fields-from s p) v (fields-from s (c .at)) (a .answer), run-put ls used n v l)
       (onto-more (run ls used n) v (numbers-of (fields-from s (c .at))))
+
+-- from `start` to p stand n numbers, which the lists have behind the first `used`
+pub record Gone (s us : List ℕ) (used start : ℕ) (ls : List ℕ) (n p : ℕ) : Type 0 where
+  pub low : start + n * 2 ≤ p
+  pub high : p ≤ length s + 1
+  pub long : length ls ≡ length us
+  pub answer : numbers-of (fields-from s start) ≡ onto (run ls used n) (numbers-of (fields-from s p))
+  pub kept : Kept used us ls
+
+pub gone-none : (s ls : List ℕ) (used p : ℕ) → p ≤ length s + 1 → Gone s ls used p ls 0 p
+gone-none s ls used p h =
+    record {
+      low = omega arith;
+      high = h;
+      long = refl;
+      answer = list-start s ls used p;
+      kept = kept-all used ls;
+    }
+
+module _ (s us : List ℕ) (used start : ℕ) (ls : List ℕ) (n p : ℕ) (g : Gone s us used start ls n p) where
+  -- one number more, for which there is room
+  pub gone-more : (v : ℕ) (c : Cursor) → used * 2 + length s ≤ start + length us * 2 → NumberAt s p (Value v c)
+      → Gone s us used start (set ls (used + n) v) (n + 1) (c .at)
+  gone-more v c room a =
+      let ahead = a .ahead in
+      let l : used + n < length ls = omega (arith, g .low, g .long) in
+      record {
+        low = omega (arith, g .low);
+        high = a .ahead .1;
+        long = length-put us ls (used + n) v (g .long);
+        answer = list-more (numbers-of (fields-from s start)) s ls used n p (g .answer) v c a l;
+        kept = kept-put us ls used (used + n) v (g .kept) (omega arith);
+      }
+
+  pub gone-broken : (r : Decimal) → p ≤ length s → NumberAt s p r → r ≡ Malformed → Listing s start us ls used Broken
+  gone-broken r h a e =
+      record {
+        answer = list-broken (numbers-of (fields-from s start)) s ls used n p (g .answer) h (rw e at a);
+        fewer = tt;
+        kept = g .kept;
+      }
+
+  pub gone-end : length s < p → Listing s start us ls used (Numbers n)
+  gone-end h =
+      record {
+        answer = list-end (numbers-of (fields-from s start)) s ls used n p (g .answer) h;
+        fewer = omega (arith, g .low, g .high);
+        kept = g .kept;
+      }
 
 -- ---------------------------------------------------------------- the place of a word
 
@@ -189,3 +233,37 @@ module _ (s vs : List ℕ) (p e : ℕ) (h : p ≤ length s) (f : Found s p comma
       record { answer = rw (fields-first s p e h f, n); ahead = tt }
 
 pub ruleset word-at = (word-past, word-value, word-unread)
+
+-- ---------------------------------------------------------------- a word that is tried
+
+-- both tests are passed
+pub both-true : (a b : Bool) → (a && b) ≡ true → (a ≡ true) × (b ≡ true)
+both-true true b e = (refl, e)
+both-true false b e = absurd (let z : _≡_ {A = ℕ} 0 1 = cc in omega arith)
+
+same-equal : (xs ys : List ℕ) → same xs ys ≡ true → xs ≡ ys
+unfolding same
+same-equal [] [] e = refl
+same-equal [] (y ∷ ys) e = cc
+same-equal (x ∷ xs) [] e = cc
+same-equal (x ∷ xs) (y ∷ ys) e =
+    let h = both-true (eqb x y) (same xs ys) e in
+    rw (eqb-true x y (h .0), same-equal xs ys (h .1))
+
+pub tried-here : (vs w : List ℕ) (k s e : ℕ) (r : Bool) → Tried vs k s e → Same vs w s e r → r ≡ true → some k ≡ position w (split comma vs)
+tried-here vs w k s e r t m g =
+    rw (← same-equal (take (e - s) (drop s vs)) w (m .word g)) (sym (t .place (m .low g) (m .high g)))
+
+pub same-here : (vs w : List ℕ) (s e : ℕ) (r : Bool) → s ≤ e → e ≤ length vs → r ≡ same (take (e - s) (drop s vs)) w → Same vs w s e r
+same-here vs w s e r l h q = record { low = λ g. l; high = λ g. h; word = λ g. sym q ∙ g }
+
+pub same-nowhere : (vs w : List ℕ) (s e : ℕ) → Same vs w s e false
+same-nowhere vs w s e =
+    record {
+      low = λ g. absurd (no g);
+      high = λ g. absurd (no g);
+      word = λ g. absurd (no g);
+    }
+  where
+    no : false ≡ true → ⊥
+    no g = let z : _≡_ {A = ℕ} 0 1 = cc in omega arith

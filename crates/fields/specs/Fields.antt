@@ -1,5 +1,5 @@
 -- What is left of a line at a position: the code's answers as the fields that they stand for.
-use Prim.Native.Nat.{ℕ, zero, suc, _+_, _*_, _≤_, _<_, _^_, _-_}
+use Prim.Native.Nat.{ℕ, suc, _+_, _*_, _≤_, _<_, _^_, _-_}
 use mathlib.Core.Path.{_≡_}
 use mathlib.Core.Bool.{Bool, true, false}
 use mathlib.Core.List.{List, [], _∷_, _++_}
@@ -75,6 +75,23 @@ pub record NumberAt (s : List ℕ) (p : ℕ) (r : Decimal) : Type 0 where
   pub answer : decimalOf s r ≡ first-number (fields-from s p)
   pub ahead : Ahead s p r
 
+-- from p to i stand the digits of v, and no comma
+pub record Digits (s : List ℕ) (p i v : ℕ) : Type 0 where
+  pub low : p ≤ i
+  pub high : i ≤ length s
+  pub bound : v < 2 ^ 64
+  pub mark : p + index comma (drop p s) ≡ i + index comma (drop i s)
+  pub digits : all-digits (take (i - p) (drop p s)) ≡ true
+  pub value : horner 0 (take (i - p) (drop p s)) ≡ v
+
+-- a number that is read is the one that stands there
+pub record QuickAt (s : List ℕ) (p : ℕ) (r : Decimal) : Type 0 where
+  pub right : (v : ℕ) (c : Cursor) → r ≡ Value v c → NumberAt s p (Value v c)
+
+-- a digit that is read is the whole field that stands there
+pub record LoneAt (s : List ℕ) (p d : ℕ) : Type 0 where
+  pub right : d < 10 → NumberAt s p (Value d (record { at = p + 2 }))
+
 abbrev pub cons-number : Option ℕ → Option (List ℕ) → Option (List ℕ)
 cons-number none xs = none
 cons-number (some x) none = none
@@ -140,3 +157,12 @@ Behind s p Unknown = Unit {0}
 pub record WordAt (s vs : List ℕ) (p : ℕ) (r : Keyword) : Type 0 where
   pub answer : wordOf s r ≡ first-word (split comma vs) (fields-from s p)
   pub ahead : Behind s p r
+
+-- what stands from s to e of the words is the k-th of them
+pub record Tried (vs : List ℕ) (k s e : ℕ) : Type 0 where
+  pub place : s ≤ e → e ≤ length vs → position (take (e - s) (drop s vs)) (split comma vs) ≡ some k
+
+pub record Same (vs w : List ℕ) (s e : ℕ) (r : Bool) : Type 0 where
+  pub low : r ≡ true → s ≤ e
+  pub high : r ≡ true → e ≤ length vs
+  pub word : r ≡ true → same (take (e - s) (drop s vs)) w ≡ true

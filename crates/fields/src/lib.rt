@@ -2,9 +2,8 @@
 ghost use mathlib.Core.Path.{_≡_};
 ghost use Prim.Native.Nat.{_+_, _*_, _≤_};
 ghost use lib.ListN.{length};
-ghost use mathlib.Core.List.{[]};
 ghost use Rattle.spec.specs.Text.{number as numberOf, same as sameOf, split, comma};
-ghost use Rattle.fields.specs.Fields.{Found, parsedOf, digits-from, NumberAt, Listing, position, placeOf, WordAt};
+ghost use Rattle.fields.specs.Fields.{Found, parsedOf, digits-from, NumberAt, Listing, position, placeOf, WordAt, Tried, Same, Digits, QuickAt, LoneAt};
 
 // A position in a line: behind the last field it is one past the line's end.
 pub struct Cursor {
@@ -108,7 +107,7 @@ pub fn field_number(field: &[u8]) -> Parsed
     digits(field)
 }
 
-pub fn number(line: &[u8], cursor: Cursor) -> Decimal
+fn any_number(line: &[u8], cursor: Cursor) -> Decimal
     ensures { λ r. ⌜ NumberAt (now (line .entry)) (cursor .at) r ⌝ }
 {
     let at = cursor.at;
@@ -122,23 +121,107 @@ pub fn number(line: &[u8], cursor: Cursor) -> Decimal
     }
 }
 
+// Digits that end at i, where neither none nor a 0 before others.
+fn whole(line: &[u8], at: usize, i: usize, value: u64) -> Decimal
+    requires { ⌜ Digits (now line) at i value × Found (now line) at comma i ⌝ }
+    ensures { λ r. ⌜ QuickAt (now (line .entry)) at r ⌝ }
+{
+    if i == at {
+        return Decimal::Malformed;
+    }
+    if i - at == 1 {
+        return Decimal::Value(value, Cursor { at: i + 1 });
+    }
+    if line[at] == 48 {
+        return Decimal::Malformed;
+    }
+    Decimal::Value(value, Cursor { at: i + 1 })
+}
+
+// A number of at most 18 digits in one pass; what this does not read, `any_number` judges.
+fn quick(line: &[u8], at: usize) -> Decimal
+    requires { ⌜ at ≤ length (now line) ⌝ }
+    ensures { λ r. ⌜ QuickAt (now (line .entry)) at r ⌝ }
+{
+    let mut value: u64 = 0;
+    let mut i = at;
+    while i < line.len() {
+        let byte = line[i];
+        if byte == 44 {
+            return whole(line, at, i, value);
+        }
+        if byte < 48 {
+            return Decimal::Malformed;
+        }
+        if 57 < byte {
+            return Decimal::Malformed;
+        }
+        if 99_999_999_999_999_999 < value {
+            return Decimal::Malformed;
+        }
+        value = value * 10 + (byte - 48) as u64;
+        i += 1;
+    }
+    whole(line, at, i, value)
+}
+
+pub fn number(line: &[u8], cursor: Cursor) -> Decimal
+    ensures { λ r. ⌜ NumberAt (now (line .entry)) (cursor .at) r ⌝ }
+{
+    let at = cursor.at;
+    if line.len() < at {
+        return Decimal::Malformed;
+    }
+    match quick(line, at) {
+        Decimal::Value(v, next) => Decimal::Value(v, next),
+        Decimal::Malformed => any_number(line, cursor),
+    }
+}
+
+// A digit that is a whole field, or 10.
+fn lone(line: &[u8], at: usize) -> u8
+    ensures { λ r. ⌜ LoneAt (now (line .entry)) at r ⌝ }
+{
+    if line.len() <= at {
+        return 10;
+    }
+    let byte = line[at];
+    if byte < 48 {
+        return 10;
+    }
+    if 57 < byte {
+        return 10;
+    }
+    if line.len() - at == 1 {
+        return byte - 48;
+    }
+    if line[at + 1] == 44 {
+        return byte - 48;
+    }
+    10
+}
+
 // The numbers to the line's end, behind the first `used` of the lists.
 pub fn numbers(line: &[u8], cursor: Cursor, lists: &mut [u64], used: usize) -> Listed
     requires { ⌜ (used * 2 + length (now line) ≤ cursor .at + length (now lists) * 2) × (cursor .at ≤ length (now line) + 1) ⌝ }
     ensures { λ r. ⌜ Listing (now (line .entry)) (cursor .at) (now (lists .entry)) (now (lists .exit)) used r ⌝ }
 {
-    let mut c = cursor;
     let mut n: usize = 0;
-    let mut at = c.at;
+    let mut at = cursor.at;
     while at <= line.len() {
-        let Decimal::Value(v, next) = number(line, c) else {
-            return Listed::Broken;
-        };
         let to = used + n;
-        lists[to] = v;
+        let digit = lone(line, at);
+        if digit < 10 {
+            lists[to] = digit as u64;
+            at += 2;
+        } else {
+            let Decimal::Value(v, next) = number(line, Cursor { at }) else {
+                return Listed::Broken;
+            };
+            lists[to] = v;
+            at = next.at;
+        }
         n += 1;
-        c = next;
-        at = c.at;
     }
     Listed::Numbers(n)
 }
@@ -170,6 +253,45 @@ pub fn word(line: &[u8], cursor: Cursor, words: &[u8]) -> Keyword
     let end = find(line, at, 44);
     match word_place(words, &line[at..end]) {
         Place::At(k) => Keyword::Word(k, Cursor { at: end + 1 }),
+        Place::Nowhere => Keyword::Unknown,
+    }
+}
+
+// Whether a field is what stands from s to e of the words.
+fn stands(words: &[u8], field: &[u8], s: usize, e: usize) -> bool
+    ensures { λ r. ⌜ Same (now (words .entry)) (now (field .entry)) s e r ⌝ }
+{
+    if e < s {
+        return false;
+    }
+    if words.len() < e {
+        return false;
+    }
+    same(&words[s..e], field)
+}
+
+fn tried_place(words: &[u8], field: &[u8], k: u64, s: usize, e: usize) -> Place
+    requires { ⌜ Tried (now words) k s e ⌝ }
+    ensures { λ r. ⌜ placeOf r ≡ position (now (field .entry)) (split comma (now (words .entry))) ⌝ }
+{
+    if stands(words, field, s, e) {
+        return Place::At(k);
+    }
+    word_place(words, field)
+}
+
+// As `word`, but the word from s to e, the k-th, is tried first.
+pub fn word_tried(line: &[u8], cursor: Cursor, words: &[u8], k: u64, s: usize, e: usize) -> Keyword
+    requires { ⌜ Tried (now words) k s e ⌝ }
+    ensures { λ r. ⌜ WordAt (now (line .entry)) (now (words .entry)) (cursor .at) r ⌝ }
+{
+    let at = cursor.at;
+    if line.len() < at {
+        return Keyword::Unknown;
+    }
+    let end = find(line, at, 44);
+    match tried_place(words, &line[at..end], k, s, e) {
+        Place::At(j) => Keyword::Word(j, Cursor { at: end + 1 }),
         Place::Nowhere => Keyword::Unknown,
     }
 }

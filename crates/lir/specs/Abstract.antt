@@ -6,7 +6,6 @@ use mathlib.Core.Option.{Option, none, some}
 use lib.Dec.{ltb}
 use Rattle.spec.specs.Lir as lir
 use Rattle.spec.specs.Allocation.{bytes-from}
-use Rattle.lir.specs.declared.StorageId.{StorageId}
 use Rattle.lir.specs.declared.ByteStorage.{ByteStorage}
 use Rattle.lir.specs.declared.ByteOperand.{ByteOperand}
 use Rattle.lir.specs.declared.BitOperand.{BitOperand}

@@ -647,7 +647,7 @@ fn print_compare(
     text::put(buf, s, b'\n')
 }
 
-fn print_select_byte(
+pub fn print_select_byte(
     buf: &mut [u8],
     at: usize,
     d: ByteStorage,

@@ -7,7 +7,7 @@ use lib.ListN.{length, getD}
 use lib.Seq.{sets}
 use Rattle.spec.specs.Hir.{At}
 use Rattle.spec.specs.Ticket.{Tables, exprAt, nowhere}
-use Rattle.spec.specs.Monad.{nothing, bind-to, _>>=_}
+use Rattle.spec.specs.Monad.{bind-to, _>>=_}
 use Rattle.spec.specs.Monad as monad
 use Rattle.spec.specs.Lower.{as-bit, lower-expression, lower-expressions, expression-as-bit}
 use Rattle.spec.specs.Conversions.{value-as-bit}

@@ -3,3 +3,4 @@ pub mod Sums
 pub mod RoomLaws
 pub mod StepLaws
 pub mod CycleLaws
+pub mod ListLaws

@@ -159,10 +159,6 @@ module _ (T : Tables) (R : TypesRight T) where
         let g = q .room in
         (rw e (record { room = room-less (omega arith) (q .room); top = omega (arith, q .top, weight-least T R ty) }), omega (arith, many a n, g .storage))
 
-    -- the parts of an aggregate are few: its depth falls by more
-    pub few-parts : {ty : ℕ} (a n : ℕ) {s : State} {stack : List ℕ} → FormRoom T lists d ty (Form.Aggregate a n) s stack → n ≤ 4611686018427387904
-    few-parts {ty} a n q = let g = q .room in omega (arith, many a n, g .storage)
-
     kids-sum : (f : ℕ → ℕ) (a i n : ℕ) → (n ≡ 0 → ⊥) → node-sums f (kids T lists d (a + i) n) ≡ node-sum f (exprAt d T (getD lists (a + i) 0)) + node-sums f (kids T lists d (a + (i + 1)) (n - 1))
     unfolding node-sum
     kids-sum f a i n h = let e : a + (i + 1) ≡ a + i + 1 = omega arith in rw (e, run-here lists (a + i) n h)

@@ -11,7 +11,7 @@ use Rattle.spec.specs.Ticket.{Tables, integer-unary-op, integer-binary-op, comp
 use Rattle.spec.specs.Lir.{Value, value, unit, bit-value, bytes-value, aggregate, BitOperand}
 use Rattle.spec.specs.Monad.{Outcome, done, nothing, prepend, bind-to, _>>_, require}
 use Rattle.spec.specs.Monad as monad
-use Rattle.spec.specs.Operands.{value-repr, value-type, value-bytes, value-bit}
+use Rattle.spec.specs.Operands.{value-repr, value-bytes, value-bit}
 use Rattle.spec.specs.Operators.{ConversionForm, resizing, extending-sign, reinterpreting, from-boolean, to-boolean, of-float, conversion-form}
 use Rattle.spec.specs.Arithmetic.{lower-integer-unary, lower-integer-binary}
 use Rattle.spec.specs.Conversions.{not-zero, value-as-bit, resized, sign-extended, boolean-to-integer, integer-to-bool, reinterpreted, lower-compare, lower-conversion}
@@ -23,11 +23,11 @@ use Rattle.values.specs.declared.State.{State}
 use Rattle.values.specs.declared.Value.{Value as Val}
 use Rattle.values.specs.declared.Lowered.{Lowered}
 use Rattle.values.specs.declared.BitLowered.{BitLowered}
-use Rattle.values.specs.Heads.{Head, root, parts-of, head-of, flat-of}
+use Rattle.values.specs.Heads.{Head, root, parts-of, head-of, flat-of, flat-bytes, flat-bit, flat-type}
 use Rattle.values.specs.Left.{Bufs, counters-in, at-top, MeetsValue, MeetsBit, DoneValue}
 use Rattle.values.specs.Laws.{prepend-prepend, left-then, drop-meets, drop-bit, with-stack}
 use Rattle.values.specs.Stack.{Extracts}
-use Rattle.parts.specs.Meets.{extract-meets}
+use Rattle.parts.specs.Meets.{root-type, extract-meets}
 use Rattle.parts.specs.Insert.{Inserts}
 use Rattle.parts.specs.InsertMeets.{insert-meets}
 use Rattle.reads.specs.declared.At.{At as Place}
@@ -42,52 +42,31 @@ use Rattle.conversions.specs.Converting.{reinterpreted-by, reinterpreted-of}
 module _ (T : Tables) (h : At) (c : monad.Counters) where
   unary-flat : (op : hir.IntegerUnaryOp) (ty : ℕ) (v : Value) → lower-integer-unary T op (flat-of (root v)) ty h c ≡ lower-integer-unary T op v ty h c
   unfolding lower-integer-unary value-bytes
-  unary-flat op ty (value t unit) = refl
-  unary-flat op ty (value t (bit-value b)) = refl
-  unary-flat op ty (value t (bytes-value bs)) = refl
-  unary-flat op ty (value t (aggregate vs)) = refl
+  unary-flat op ty v = rw (flat-bytes v)
 
   binary-left : (op : hir.IntegerBinaryOp) (ty : ℕ) (v w : Value) → lower-integer-binary T op (flat-of (root v)) w ty h c ≡ lower-integer-binary T op v w ty h c
   unfolding lower-integer-binary value-bytes
-  binary-left op ty (value t unit) w = refl
-  binary-left op ty (value t (bit-value b)) w = refl
-  binary-left op ty (value t (bytes-value bs)) w = refl
-  binary-left op ty (value t (aggregate vs)) w = refl
+  binary-left op ty v w = rw (flat-bytes v)
 
   binary-right : (op : hir.IntegerBinaryOp) (ty : ℕ) (v w : Value) → lower-integer-binary T op v (flat-of (root w)) ty h c ≡ lower-integer-binary T op v w ty h c
   unfolding lower-integer-binary value-bytes
-  binary-right op ty v (value t unit) = refl
-  binary-right op ty v (value t (bit-value b)) = refl
-  binary-right op ty v (value t (bytes-value bs)) = refl
-  binary-right op ty v (value t (aggregate vs)) = refl
+  binary-right op ty v w = rw (flat-bytes w)
 
   compare-left : (op : hir.CompareOp) (v w : Value) → lower-compare T op (flat-of (root v)) w h c ≡ lower-compare T op v w h c
   unfolding lower-compare value-bytes
-  compare-left op (value t unit) w = refl
-  compare-left op (value t (bit-value b)) w = refl
-  compare-left op (value t (bytes-value bs)) w = refl
-  compare-left op (value t (aggregate vs)) w = refl
+  compare-left op v w = rw (flat-type v, flat-bytes v)
 
   compare-right : (op : hir.CompareOp) (v w : Value) → lower-compare T op v (flat-of (root w)) h c ≡ lower-compare T op v w h c
   unfolding lower-compare value-bytes
-  compare-right op v (value t unit) = refl
-  compare-right op v (value t (bit-value b)) = refl
-  compare-right op v (value t (bytes-value bs)) = refl
-  compare-right op v (value t (aggregate vs)) = refl
+  compare-right op v w = rw (flat-bytes w)
 
   offset-left : (v w : Value) → lower-pointer-offset T (flat-of (root v)) w h c ≡ lower-pointer-offset T v w h c
   unfolding lower-pointer-offset value-bytes
-  offset-left (value t unit) w = refl
-  offset-left (value t (bit-value b)) w = refl
-  offset-left (value t (bytes-value bs)) w = refl
-  offset-left (value t (aggregate vs)) w = refl
+  offset-left v w = rw (flat-bytes v)
 
   offset-right : (v w : Value) → lower-pointer-offset T v (flat-of (root w)) h c ≡ lower-pointer-offset T v w h c
   unfolding lower-pointer-offset value-bytes
-  offset-right v (value t unit) = refl
-  offset-right v (value t (bit-value b)) = refl
-  offset-right v (value t (bytes-value bs)) = refl
-  offset-right v (value t (aggregate vs)) = refl
+  offset-right v w = rw (flat-bytes w)
 
   bit-flat : (v : Value) → value-as-bit T (flat-of (root v)) h c ≡ value-as-bit T v h c
   unfolding value-as-bit not-zero value-bytes
@@ -99,23 +78,11 @@ module _ (T : Tables) (h : At) (c : monad.Counters) where
   conversion-flat : (op : hir.ConversionOp) (ty : ℕ) (f : ConversionForm) → conversion-form op ≡ f → (f ≡ reinterpreting → ⊥) → (v : Value)
       → lower-conversion T op (flat-of (root v)) ty h c ≡ lower-conversion T op v ty h c
   unfolding lower-conversion resized sign-extended boolean-to-integer integer-to-bool not-zero value-bytes value-bit
-  conversion-flat op ty resizing e n (value t unit) = rw e
-  conversion-flat op ty resizing e n (value t (bit-value b)) = rw e
-  conversion-flat op ty resizing e n (value t (bytes-value bs)) = rw e
-  conversion-flat op ty resizing e n (value t (aggregate vs)) = rw e
-  conversion-flat op ty extending-sign e n (value t unit) = rw e
-  conversion-flat op ty extending-sign e n (value t (bit-value b)) = rw e
-  conversion-flat op ty extending-sign e n (value t (bytes-value bs)) = rw e
-  conversion-flat op ty extending-sign e n (value t (aggregate vs)) = rw e
+  conversion-flat op ty resizing e n v = rw (e, flat-bytes v)
+  conversion-flat op ty extending-sign e n v = rw (e, flat-type v, flat-bytes v)
   conversion-flat op ty reinterpreting e n v = absurd (n refl)
-  conversion-flat op ty from-boolean e n (value t unit) = rw e
-  conversion-flat op ty from-boolean e n (value t (bit-value b)) = rw e
-  conversion-flat op ty from-boolean e n (value t (bytes-value bs)) = rw e
-  conversion-flat op ty from-boolean e n (value t (aggregate vs)) = rw e
-  conversion-flat op ty to-boolean e n (value t unit) = rw e
-  conversion-flat op ty to-boolean e n (value t (bit-value b)) = rw e
-  conversion-flat op ty to-boolean e n (value t (bytes-value bs)) = rw e
-  conversion-flat op ty to-boolean e n (value t (aggregate vs)) = rw e
+  conversion-flat op ty from-boolean e n v = rw (e, flat-bit v)
+  conversion-flat op ty to-boolean e n v = rw (e, flat-type v, flat-bytes v)
   conversion-flat op ty of-float e n v = rw e
 
 -- ---------------------------------------------------------------- behind one operand
@@ -147,9 +114,6 @@ parts-same ty (value t r) = refl
 
 head-same : (ty : ℕ) (x : Val) (v : Value) → head-of x ≡ root v → head-of (record { ty = ty; repr = x .repr }) ≡ root (value ty (value-repr v))
 head-same ty x (value t r) e = ap (λ (z : Head). record { ty = ty; shape = z .shape }) e
-
-root-type : (v : Value) → (root v) .ty ≡ value-type v
-root-type (value ty r) = refl
 
 -- a value's records under another type
 reinterpret-case : {b : Bufs} {s : State} {o : Outcome Value} {b1 : Bufs} {x : Val} {s1 : State} (h : Place) (d : DoneValue b s o b1 x s1) (q : Bool)

@@ -240,18 +240,26 @@ fn lower_list(rows: &[u64], nodes: &[u64], lists: &[u64], counts: Counts, code: 
     requires { ⌜ (Readable (tables-of (now rows) (now nodes) (now lists) counts)) × (ListRoom (tables-of (now rows) (now nodes) (now lists) counts) (kids (tables-of (now rows) (now nodes) (now lists) counts) (now lists) depth (a + i) n) s (now stack)) × (i + n ≤ 4611686018427387904) ⌝ }
     ensures { λ r. ⌜ MeetsList n (bufs (now (code .entry)) (now (store .entry)) (now (narrowed .entry)) (now (stack .entry))) s (lower-expressions (tables-of (now (rows .entry)) (now (nodes .entry)) (now (lists .entry)) counts) (kids (tables-of (now (rows .entry)) (now (nodes .entry)) (now (lists .entry)) counts) (now (lists .entry)) depth (a + i) n) nowhere (counters-in s)) (bufs (now (code .exit)) (now (store .exit)) (now (narrowed .exit)) (now (stack .exit))) r ⌝ }
 {
-    if n == 0 {
-        return Listed::Done(s);
-    }
-    let top = s.top;
-    let k = tables::list_at(lists, a, i);
-    match lower_expression(rows, nodes, lists, counts, code, store, narrowed, stack, values::at_top(s, top + 8), k, depth) {
-        Lowered::Refused(x, y) => Listed::Refused(x, y),
-        Lowered::Done(v, s1) => {
-            reads::store_head(stack, top, v);
-            lower_list(rows, nodes, lists, counts, code, store, narrowed, stack, s1, a, i + 1, n - 1, depth)
+    // m nodes are left, from word j on.
+    let mut t = s;
+    let mut j = i;
+    let mut m = n;
+    while m != 0 {
+        let top = t.top;
+        let k = tables::list_at(lists, a, j);
+        match lower_expression(rows, nodes, lists, counts, code, store, narrowed, stack, values::at_top(t, top + 8), k, depth) {
+            Lowered::Refused(x, y) => {
+                return Listed::Refused(x, y);
+            }
+            Lowered::Done(v, s1) => {
+                reads::store_head(stack, top, v);
+                t = s1;
+                j += 1;
+                m -= 1;
+            }
         }
     }
+    Listed::Done(t)
 }
 
 // A node's value as a bit, by the own step of the node h.

@@ -2,7 +2,7 @@
 use mathlib.Core.Path.{_≡_, refl, sym, ap, subst, _∙_}
 use mathlib.Core.List.{List, [], _∷_, _++_, map, append-nil}
 use mathlib.Core.Option.{Option, none, some}
-use Prim.Native.Nat.{ℕ, _+_, _-_, _*_, _≤_}
+use Prim.Native.Nat.{ℕ, _+_, _*_, _≤_}
 use native.Mathlib.Omega.{arith}
 use lib.ListN.{length, take, length-append, length-take}
 use lib.Seq.{take-at, length-take-le}
@@ -24,7 +24,7 @@ use Rattle.values.specs.Left.{case-value, Bufs, counters-in, at-top, value-word
 use Rattle.values.specs.Laws.{prepend-prepend, left-then, left-kept, drop-meets, with-stack}
 use Rattle.values.specs.Stack.{found-in, Moved, case-extract, Extracts, values-in, heads, Stands, between-left, stands-left, between-kept, stands-kept, selects, select-flat}
 
-root-type : (v : Value) → (root v) .ty ≡ value-type v
+pub root-type : (v : Value) → (root v) .ty ≡ value-type v
 root-type (value ty r) = refl
 
 length-words : (vs : List Val) → length (values-words vs) ≡ 8 * length vs

@@ -7,7 +7,7 @@ use values::State;
 use values::Value;
 ghost use mathlib.Core.Path.{_≡_};
 ghost use mathlib.Core.List.{_∷_};
-ghost use Prim.Native.Nat.{ℕ, _+_, _/_, _^_, _≤_, _<_};
+ghost use Prim.Native.Nat.{_+_, _/_, _^_, _≤_, _<_};
 ghost use lib.ListN.{length, take, drop};
 ghost use lib.Seq.{sets};
 ghost use Rattle.values.specs.Heads.{head-of, records, skip, Sound-value};

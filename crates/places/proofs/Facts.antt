@@ -1,15 +1,15 @@
 -- What a readable ticket says of its types and of bases: sizes and offsets are small. Assumes nothing.
-use mathlib.Core.Path.{_≡_, refl, sym, ap, subst, _∙_}
+use mathlib.Core.Path.{_≡_, refl, ap, subst, _∙_}
 use mathlib.Core.Bool.{false}
 use mathlib.Core.List.{List, [], _∷_, _++_}
-use mathlib.Core.Option.{Option, none, some, Option·none-ne-some}
+use mathlib.Core.Option.{Option, some, Option·none-ne-some}
 use Prim.Native.Nat.{ℕ, zero, suc, _+_, _-_, _*_, _≤_, _<_}
 use native.Mathlib.Omega.{arith}
 use native.Mathlib.Numerals.{add-one}
 use native.Mathlib.Nat.{mul-le-mul-right, mul-comm}
 use lib.ListN.{getD}
 use Rattle.spec.specs.Limits.{offset-limit, type-size-limit}
-use Rattle.spec.specs.Ticket.{TypeWord, tUnit, tBool, tBits, tFloat, tPointer, tArray, tStruct, tTuple, tOpaque, PlacedLine, Tables, typeAt, arg, sum, type-size-by}
+use Rattle.spec.specs.Ticket.{TypeWord, tUnit, tBool, tBits, tFloat, tPointer, tArray, tStruct, tTuple, tOpaque, PlacedLine, Tables, typeAt, arg, sum}
 use Rattle.spec.specs.Readable.{All, TypesRight, PlacedRight, Readable}
 use Rattle.spec.specs.Monad.{Lower, _>>=_}
 use Rattle.spec.specs.Operands.{nth}
@@ -18,7 +18,6 @@ use Rattle.spec.specs.Places.{ArrayOf, is-one, fields-of, array-of, base-of, pa
 use Rattle.spec.specs.Places as spec
 use Rattle.spec.specs.Allocation as allocation
 use Rattle.tables.specs.declared.Counts.{Counts}
-use Rattle.tables.specs.declared.Placed.{Placed}
 use Rattle.tables.specs.declared.PlacedAt.{PlacedAt}
 use Rattle.tables.specs.Tables.{tab, run, type-kind-at, type-word, type-args, size-at, tables-of, placed-line, placed-option}
 use Rattle.tables.specs.declared.TypeKind.{TypeKind}
@@ -28,7 +27,7 @@ use Rattle.places.specs.declared.Based.{Based}
 use Rattle.places.specs.declared.Location.{Location}
 use Rattle.places.specs.declared.Resolved.{Resolved}
 use Rattle.places.specs.Answers.{Answer, gives, refuses, behind, Answers}
-use Rattle.places.specs.Abstract.{base-from, based-answer, location-from, Held, Fine, AllFine, AllRight, AllNear, Bases, Locates}
+use Rattle.places.specs.Abstract.{base-from, location-from, Held, Fine, AllRight, AllNear, Bases, Locates}
 use Rattle.places.proofs.Laws.{bind}
 
 -- ---------------------------------------------------------------- sums of sizes

@@ -2,7 +2,7 @@
 use mathlib.Core.Path.{_≡_}
 use Prim.Native.Nat.{ℕ}
 use Rattle.spec.specs.Hir.{At}
-use Rattle.spec.specs.Monad.{Counters, Outcome, Lower, pure, refuse}
+use Rattle.spec.specs.Monad.{Counters, Lower, pure, refuse}
 
 pub data Answer (A : Type 0) : Type 0 where
   gives : A → Answer A

@@ -1,5 +1,5 @@
 -- Text put piece by piece; a value's lines by its records; the marks of the storages that are narrowed.
-use Prim.Native.Nat.{ℕ, zero, suc, _+_, _-_, _*_, _≤_, _<_}
+use Prim.Native.Nat.{ℕ, zero, suc, _+_, _-_, _≤_, _<_}
 use mathlib.Core.Path.{_≡_, refl, sym, ap, subst, _∙_}
 use mathlib.Core.Bool.{Bool, true, false, _||_}
 use mathlib.Core.List.{List, [], _∷_, _++_, map, append-assoc, append-nil}
@@ -9,7 +9,7 @@ use borrow.Author.Tests.{eqb-true, eqb-false, ne-eqb}
 use lib.ListN.{length, set, getD, length-set}
 use lib.Seq.{getD-set-same, getD-set-other}
 use Rattle.spec.specs.Lir.{Value, value, Repr, unit, bit-value, bytes-value, aggregate, Values, no-values, _∷ᵛ_}
-use Rattle.spec.specs.Print.{each, narrowed-line, value-lines, repr-lines, values-lines, parts, value-line}
+use Rattle.spec.specs.Print.{each, narrowed-line, value-lines, repr-lines, values-lines, parts}
 use Rattle.spec.specs.Answer.{member, ascending}
 use Rattle.text.specs.Put.{Put, then, none, last}
 use Rattle.emission.specs.Appends.{each-append, each-one}

@@ -1,6 +1,6 @@
 -- The lines of a value, one for each record: its own head's, then those of its parts.
 use Prim.Native.Nat.{ℕ}
-use mathlib.Core.List.{List, [], _∷_}
+use mathlib.Core.List.{List}
 use Rattle.spec.specs.Print.{value-line, each}
 use Rattle.lir.specs.Lines.{unit-fields, bit-fields, bytes-fields, aggregate-fields}
 use Rattle.values.specs.Heads.{Shape, unit-shape, bit-shape, bytes-shape, aggregate-shape, Head}

@@ -2,7 +2,6 @@
 use lir::StorageId;
 use values::Repr;
 use values::Value;
-ghost use mathlib.Core.Path.{_≡_};
 ghost use mathlib.Core.List.{_∷_};
 ghost use Prim.Native.Nat.{_≤_};
 ghost use lib.ListN.{length};

@@ -57,11 +57,12 @@ fn case_at(all: &[u8], at: usize) -> Header {
 fn holds(ticket: &[u8], number: u64, line: u64) -> bool
     requires { ⌜ length (now ticket) ≤ 65538 ⌝ }
 {
-    let mut rows = [0u64; 6912];
+    let mut rows = [0u64; 10280];
     let mut lists = [0u64; 32769];
     match ticket::reading::read_ticket(ticket, &mut rows, &mut lists) {
         ReadAnswer::Refused(n, l) => n == number && l == line,
         ReadAnswer::Accepted(_) => number == 0,
+        ReadAnswer::NoRoom => false,
     }
 }
 

@@ -5,7 +5,7 @@ use Prim.Native.Nat.{ℕ, zero, suc, _+_, _-_, _*_, _≤_}
 use native.Mathlib.Omega.{arith}
 use lib.ListN.{length, getD}
 use Rattle.spec.specs.Hir as hir
-use Rattle.spec.specs.Ticket.{TypeLine, Tables, typeAt, sum, type-size-by, weight-by}
+use Rattle.spec.specs.Ticket.{TypeLine, Tables, sum, type-size-by, weight-by}
 use Rattle.spec.specs.Readable.{TypesRight}
 use Rattle.spec.specs.Lir.{Value}
 use Rattle.spec.specs.Monad.{Lower, bind-to, _>>=_}

@@ -1,51 +1,53 @@
 -- What the pieces of a select leave, and a select of them. Assumes nothing.
-use mathlib.Core.Path.{_≡_, refl, sym, subst, _∙_}
+use mathlib.Core.Path.{_≡_, refl, subst, _∙_}
 use mathlib.Core.Bool.{Bool, true, false}
-use mathlib.Core.List.{List, [], _∷_, _++_, map, append-nil}
+use mathlib.Core.List.{List, [], _∷_, map, append-nil}
 use mathlib.Core.Option.{Option, none, some}
-use Prim.Native.Nat.{ℕ, zero, suc, _+_, _-_, _≤_}
+use Prim.Native.Nat.{ℕ, zero, suc, _+_, _-_, _≤_, min}
 use native.Mathlib.Omega.{arith}
 use native.Mathlib.Numerals.{add-one}
 use lib.Dec.{eqb}
-use lib.ListN.{length, take}
+use lib.ListN.{length}
 use borrow.Author.Tests.{eq-eqb, ne-eqb}
 use Rattle.spec.specs.Hir.{At}
-use Rattle.spec.specs.Lir.{BitOperand, ValueOperand, InstructionKind, ValueStorage, byte-storage}
+use Rattle.spec.specs.Lir.{BitOperand, ByteOperand, ValueOperand, byte-operand, InstructionKind, select-byte, ValueStorage, byte-storage}
 use Rattle.spec.specs.Ticket.{Tables}
 use Rattle.spec.specs.Readable.{Readable}
-use Rattle.spec.specs.Monad.{Lower, Outcome, done, refused, nothing, prepend, _>>=_, _>>_, or-refuse, require, emits}
+use Rattle.spec.specs.Monad.{Lower, done, refused, nothing, prepend, _>>=_, _>>_, or-refuse, require, emits}
 use Rattle.spec.specs.Monad as monad
-use Rattle.spec.specs.Allocation.{Location, type-size, allocate-temporary, bytes-from, bytes-at, location-value-storages}
+use Rattle.spec.specs.Allocation.{type-size, allocate-temporary, bytes-from, bytes-at, location-value-storages}
 use Rattle.spec.specs.ReadBytes.{read-location}
 use Rattle.spec.specs.Select.{select-piece, select-pieces}
 use Rattle.text.specs.Put.{last}
-use Rattle.lir.specs.Abstract.{tab}
+use Rattle.lir.specs.declared.Bytes.{Bytes}
+use Rattle.lir.specs.Abstract.{tab, byte-at, bytes-of, Small}
+use Rattle.lir.specs.PutFields.{spot, length-tab}
 use Rattle.emission.specs.declared.Counters.{Counters}
 use Rattle.emission.specs.declared.Allocated.{Allocated}
 use Rattle.emission.specs.declared.Emitted.{Emitted}
 use Rattle.emission.specs.declared.Temporary.{Temporary}
 use Rattle.emission.specs.Appends.{texts, counters-of, append-none, room-less}
-use Rattle.emission.specs.Emits.{Emits, Allocates, room-allocated}
+use Rattle.emission.specs.Emits.{Emits, room-allocated}
 use Rattle.emission.specs.Does.{Does, Refuses, MeetsCode, meets-by, out, does-next, does-more, does-emits, does-allocate, room-done}
-use Rattle.emission.specs.Temporaries.{location, temporary-by, MeetsTemporary}
+use Rattle.emission.specs.Forms.{prepend-nothing}
+use Rattle.emission.specs.Temporaries.{location, MeetsTemporary, temporary-placed, temporary-refused}
 use Rattle.values.specs.declared.State.{State}
 use Rattle.values.specs.declared.Value.{Value as Val}
+use Rattle.values.specs.declared.Repr.{Repr as Rep}
 use Rattle.values.specs.declared.Lowered.{Lowered}
-use Rattle.values.specs.Heads.{head-of, operands-of}
-use Rattle.values.specs.Left.{Bufs, bufs, counters-in, marked, values-words, Left, MeetsValue}
-use Rattle.values.specs.Laws.{drop-meets}
+use Rattle.values.specs.Heads.{head-of, operands-of, Sound-repr, Sound-value}
+use Rattle.values.specs.Left.{Bufs, bufs, counters-in, MeetsValue}
+use Rattle.values.specs.Laws.{drop-meets, left-does}
 use Rattle.values.specs.Stack.{heads, selects}
 use Rattle.parts.specs.declared.Operand.{Operand}
 use Rattle.parts.specs.declared.Cursor.{Cursor}
 use Rattle.parts.specs.declared.Next.{Next}
+use Rattle.parts.specs.Records.{between-none}
 use Rattle.parts.specs.Operands.{operand-of, before-first, left-operands, left-first, Ready, case-next, Nexts}
 use Rattle.reads.specs.Reading.{size-of, TypeRoom, StepRoom}
+use Rattle.selects.specs.declared.Sides.{Sides}
 use Rattle.selects.specs.declared.Step.{Step}
-use Rattle.selects.specs.Selecting.{target, target-count, targets, FillRoom, fills, fills-and-reads, piece-by, MeetsPiece, pieces, Advances, step-by, MeetsStep}
-
-prepend-nothing : {A : Type 0} (o : Outcome A) → prepend nothing o ≡ o
-prepend-nothing (refused n l) = refl
-prepend-nothing (done a c p) = refl
+use Rattle.selects.specs.Selecting.{target, target-count, targets, FillRoom, fills, fills-and-reads, piece-by, MeetsPiece, pieces, Advances, step-by, MeetsStep, byte-selected, Alone, sides-by, MeetsSides}
 
 -- ---------------------------------------------------------------- one piece
 
@@ -199,6 +201,45 @@ module _ {stack : List ℕ} {middle end : ℕ} {t f : Cursor} (q : BitOperand) (
         let k = step-more in
         code-same (omega arith) (λ a d. rw (tab-first g i n h) (k .is (tab g (i + 1) (n - 1)) a d)) (code-more b (k .emits) v)
 
+-- ---------------------------------------------------------------- bytes alone
+
+-- instructions of the kinds ks
+code-emits : {n : ℕ} {l l1 : List ℕ} {c c1 : Counters} {ks : List InstructionKind} → c .stored ≤ last → length ks ≤ n → Emits l c ks l1 c1 → MeetsCode n l c (emits ks) l1 (Emitted.Done c1)
+code-emits b f e = record { shown = λ s p. record { shown = does-emits s p b f e } }
+
+-- pieces of bytes stop at the shortest list
+pieces-from : (q : BitOperand) (s : ℕ) (x y : ℕ → ByteOperand) (i n m k : ℕ) (h : At) (d : monad.Counters)
+    → select-pieces q (tab (target s false) i n) (map byte-operand (tab x i m)) (map byte-operand (tab y i k)) h d ≡ emits (tab (λ j. select-byte (spot s j) q (x j) (y j)) i (min n (min m k))) h d
+unfolding select-pieces select-piece tab
+pieces-from q s x y i zero m k h d = let e : min 0 (min m k) ≡ 0 = omega arith in rw e
+pieces-from q s x y i (suc n) zero k h d = let e : min (suc n) (min 0 k) ≡ 0 = omega arith in rw e
+pieces-from q s x y i (suc n) (suc m) zero h d = let e : min (suc n) (min (suc m) 0) ≡ 0 = omega arith in rw e
+pieces-from q s x y i (suc n) (suc m) (suc k) h d =
+    let e : min (suc n) (min (suc m) (suc k)) ≡ suc (min n (min m k)) = omega arith in
+    rw e (pieces-go q (target s false i) (byte-operand (x i)) (byte-operand (y i)) (tab (target s false) (suc i) n) (map byte-operand (tab x (suc i) m)) (map byte-operand (tab y (suc i) k)) h d (select-byte (spot s i) q (x i) (y i)) refl ∙ rw (pieces-from q s x y (suc i) n m k h d))
+
+-- what the answer says of both values
+pub sides-alone : {bit : Bool} {t f : Val} {top end : ℕ} {x y : Bytes} {r : Sides} → MeetsSides bit t f top end r → r ≡ Sides.Bytes x y → Alone bit t f top end x y
+sides-alone {bit} {t} {f} {top} {end} w e = subst (λ (z : Sides). sides-by bit t f top end z) e (w .shown)
+
+-- the bytes of a sound value
+pub bytes-small : (v : Val) {b : Bytes} → v .repr ≡ Rep.Bytes b → Sound-value v → Small b
+bytes-small v e s = subst (λ (z : Rep). Sound-repr z) e s
+
+-- a value of bytes has its own operands alone
+left-bytes : (stack : List ℕ) (from end : ℕ) (v : Val) (b : Bytes) → end ≤ from → v .repr ≡ Rep.Bytes b → left-operands stack end (before-first v from) ≡ map byte-operand (bytes-of b)
+left-bytes stack from end v b h e = left-first stack from end v ∙ rw (e, between-none stack from end h) (append-nil (map byte-operand (bytes-of b)))
+
+-- byte by byte, as far as both sides go
+pub pieces-bytes : (q : BitOperand) (s : ℕ) (stack : List ℕ) (n : ℕ) {m middle : ℕ} {bit : Bool} {t f : Val} {top end : ℕ} {x y : Bytes} {l l1 : List ℕ} {c c1 : Counters}
+    → Alone bit t f top end x y → top ≤ middle → middle ≤ end → m ≡ min n (min (x .total) (y .total)) → c .stored ≤ last → Emits l c (tab (byte-selected s q x y) 0 m) l1 c1
+    → MeetsCode n l c (pieces stack middle end q (tab (target s bit) 0 n) (before-first t top) (before-first f middle)) l1 (Emitted.Done c1)
+unfolding bytes-of
+pieces-bytes q s stack n {m} {middle} {bit} {t} {f} {top} {end} {x} {y} a g k e b w =
+    code-same {k = n} (omega arith)
+    (λ h d. rw (a .bytes, left-bytes stack top middle t x (omega (arith, a .none-stand)) (a .first), left-bytes stack middle end f y (omega (arith, a .none-stand)) (a .second), e) (pieces-from q s (byte-at x) (byte-at y) 0 n (x .total) (y .total) h d))
+    (code-emits b (rw length-tab (omega arith)) w)
+
 -- ---------------------------------------------------------------- into a location
 
 module _ (q : BitOperand) (a b ty : ℕ) (ts fs : List ValueOperand) (ds : List ValueStorage) {n : ℕ} {l l1 : List ℕ} {c : Counters} where
@@ -219,13 +260,13 @@ count-few true n h = omega arith
 count-few false n h = h
 
 -- the pieces of both values, from their first operands on
-pub pieces-all : (q : BitOperand) (t f : Val) (ty size s : ℕ) (stack : List ℕ) (end : ℕ) {top middle n : ℕ} {a b : Cursor} {l l1 : List ℕ} {c : Counters} {r : Emitted}
-    → t .ty ≡ f .ty → t .ty ≡ ty → size ≤ 1024 → a ≡ before-first t top → b ≡ before-first f middle → n ≡ target-count (eqb ty 0) size
-    → MeetsCode n l c (pieces stack middle end q (tab (target s (eqb ty 0)) 0 n) a b) l1 r
+pub pieces-all : (q : BitOperand) (t f : Val) (ty size s : ℕ) (stack : List ℕ) (top middle end : ℕ) {n : ℕ} {l l1 : List ℕ} {c : Counters} {r : Emitted}
+    → t .ty ≡ f .ty → t .ty ≡ ty → size ≤ 1024 → n ≡ target-count (eqb ty 0) size
+    → MeetsCode n l c (pieces stack middle end q (tab (target s (eqb ty 0)) 0 n) (before-first t top) (before-first f middle)) l1 r
     → MeetsCode 1024 l c (fills q (t .ty) (operands-of (head-of t ∷ heads stack top middle)) (f .ty) (operands-of (head-of f ∷ heads stack middle end)) ty (targets s ty size)) l1 r
 unfolding targets
-pieces-all q t f ty size s stack end {top} {middle} x y z e g k w =
-    types-same q (t .ty) (f .ty) ty _ _ _ x y (count-few (eqb ty 0) size z) (rw (e, g, k, left-first stack top middle t, left-first stack middle end f) at w)
+pieces-all q t f ty size s stack top middle end x y z k w =
+    types-same q (t .ty) (f .ty) ty _ _ _ x y (count-few (eqb ty 0) size z) (rw (k, left-first stack top middle t, left-first stack middle end f) at w)
 
 targets-bytes : (s o n : ℕ) → tab (target s false) o n ≡ map byte-storage (bytes-from s o n)
 unfolding tab bytes-from
@@ -241,24 +282,6 @@ targets-here T s ty n e = go (eqb ty 0)
     go false = rw e (targets-bytes s 0 n)
 
 -- ---------------------------------------------------------------- select
-
--- what a step has done that leaves no records
-left-does : {A : Type 0} {k : ℕ} {code store code′ store′ : List ℕ} {s : State} {m : Lower A} {a : A} {c1 : Counters} (n stack : List ℕ) (h : At)
-    (d : Does k (texts code store) (s .counters) m a (texts code′ store′) c1)
-    → Left (bufs code store n stack) s [] (counters-of c1) (out (d .storages) (d .kinds) h) (bufs code′ store′ n stack) (record { counters = c1; top = s .top })
-unfolding marked values-words
-left-does {s = s} n stack h d =
-    record {
-      appends = d .appends h;
-      numbers = refl;
-      narrows = refl;
-      parts = [];
-      shows = refl;
-      sound = tt;
-      topped = omega arith;
-      stacked = sym (append-nil (take (s .top) stack));
-      long = refl;
-    }
 
 code-done : {n : ℕ} {l l1 : List ℕ} {c c1 : Counters} {m : Lower Unit} {r : Emitted} (s : List ℕ) → length s ≤ last → MeetsCode n l c m l1 r → r ≡ Emitted.Done c1 → Does n (texts l s) c m tt (texts l1 s) c1
 code-done {n} {l} {l1} {c} {c1} {m} s p w e = subst (λ (z : Emitted). meets-by n (texts l s) c m (texts l1 s) z) e (w .shown s p .shown)
@@ -286,26 +309,20 @@ module _ (T : Tables) (q : BitOperand) (a b id ty : ℕ) (ts fs : List ValueOper
         let d = code-done store p w e in
         rw (← (targets-here T id ty size z), d .is h) (drop-meets (left-does {s = s} n stack h d) g m)
 
-temporary-here : {m : Lower Location} {ty : ℕ} {c : Counters} {store store1 : List ℕ} {r : Temporary} {new : Allocated} → MeetsTemporary store c m ty store1 r → r ≡ Temporary.Placed new
-    → Allocates store c m (location (new .id .0) ty) store1 (new .counters)
-temporary-here {m} {ty} {c} {store} {store1} w e = subst (λ (z : Temporary). temporary-by store c m ty store1 z) e (w .shown)
-
 -- the room behind the temporary
 pub temporary-room : {T : Tables} {ty size : ℕ} {s : State} {store store1 stack : List ℕ} {r : Temporary} {new : Allocated} → MeetsTemporary store (s .counters) (allocate-temporary T ty) ty store1 r → r ≡ Temporary.Placed new
     → StepRoom T ty s stack → size-of T ty ≡ size → FillRoom T ty size (record { counters = new .counters; top = s .top }) stack
-temporary-room w e f z = record { room = room-allocated {n = 4095} (f .room) (temporary-here w e); top = f .top; sized = z }
+temporary-room w e f z = record { room = room-allocated {n = 4095} (f .room) (temporary-placed w e); top = f .top; sized = z }
 
 module _ (T : Tables) (q : BitOperand) (a b ty : ℕ) (ts fs : List ValueOperand) (s : State) {store store1 : List ℕ} {r : Temporary} (w : MeetsTemporary store (s .counters) (allocate-temporary T ty) ty store1 r) (h : At) where
   pub select-refused : {k : ℕ} {b0 b1 : Bufs} → r ≡ Temporary.Refused k → MeetsValue b0 s (selects T q a ts b fs ty h (counters-in s)) b1 (Lowered.Refused k (h .line))
   unfolding selects _>>=_
-  select-refused e =
-      let k = subst (λ (z : Temporary). temporary-by store (s .counters) (allocate-temporary T ty) ty store1 z) e (w .shown) in
-      rw (k .is h) (record { shown = (refl, refl) })
+  select-refused e = rw (temporary-refused w e .is h) (record { shown = (refl, refl) })
 
   pub select-meets : {new : Allocated} {code n stack : List ℕ} {b1 : Bufs} {x : Lowered} → r ≡ Temporary.Placed new → length code ≤ last → s .counters .at ≤ last → s .top ≤ length stack
       → MeetsValue (bufs code store1 n stack) (record { counters = new .counters; top = s .top }) (fills-and-reads T q a ts b fs (location (new .id .0) ty) h (counters-of (new .counters))) b1 x
       → MeetsValue (bufs code store n stack) s (selects T q a ts b fs ty h (counters-in s)) b1 x
   unfolding selects fills-and-reads fills _>>=_
   select-meets {new} {code} {n} {stack} e y z g m =
-      let d = does-allocate code y z (temporary-here w e) in
+      let d = does-allocate code y z (temporary-placed w e) in
       rw (d .is h) (drop-meets (left-does {s = s} n stack h d) g m)

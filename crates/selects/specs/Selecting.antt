@@ -7,14 +7,16 @@ use Prim.Native.Nat.{ℕ, _+_, _*_, _≤_}
 use lib.Dec.{eqb}
 use lib.ListN.{length}
 use Rattle.spec.specs.Hir.{At}
-use Rattle.spec.specs.Lir.{BitOperand, ValueOperand, InstructionKind, ValueStorage, bit-storage, byte-storage, Value}
+use Rattle.spec.specs.Lir.{BitOperand, ValueOperand, InstructionKind, select-byte, ValueStorage, bit-storage, byte-storage, Value}
 use Rattle.spec.specs.Ticket.{Tables}
 use Rattle.spec.specs.Monad.{Lower, done, refused, nothing, prepend, _>>_, require}
 use Rattle.spec.specs.Monad as monad
 use Rattle.spec.specs.Allocation.{Location, location-value-storages}
 use Rattle.spec.specs.ReadBytes.{read-location}
 use Rattle.spec.specs.Select.{select-pieces}
-use Rattle.lir.specs.Abstract.{tab}
+use Rattle.lir.specs.declared.Bytes.{Bytes}
+use Rattle.lir.specs.Abstract.{tab, byte-at}
+use Rattle.lir.specs.PutFields.{spot}
 use Rattle.emission.specs.declared.Counters.{Counters}
 use Rattle.emission.specs.declared.Emitted.{Emitted}
 use Rattle.emission.specs.Appends.{Room}
@@ -22,11 +24,13 @@ use Rattle.emission.specs.Emits.{Emits}
 use Rattle.emission.specs.Does.{out}
 use Rattle.values.specs.declared.State.{State}
 use Rattle.values.specs.declared.Value.{Value as Val}
+use Rattle.values.specs.declared.Repr.{Repr as Rep}
 use Rattle.values.specs.Heads.{Sound-value}
 use Rattle.values.specs.Stack.{Stands}
 use Rattle.parts.specs.declared.Cursor.{Cursor}
 use Rattle.parts.specs.Operands.{left-operands, Ready}
 use Rattle.reads.specs.Reading.{size-of, weight-of}
+use Rattle.selects.specs.declared.Sides.{Sides}
 use Rattle.selects.specs.declared.Step.{Step}
 
 -- ---------------------------------------------------------------- where to
@@ -108,3 +112,24 @@ step-by stack middle end q d t f l c l′ (Step.Refused k) = (ds : List ValueSto
 -- the step at the destination d
 pub record MeetsStep (stack : List ℕ) (middle end : ℕ) (q : BitOperand) (d : ValueStorage) (t f : Cursor) (l : List ℕ) (c : Counters) (l′ : List ℕ) (r : Step) : Type 0 where
   pub shown : step-by stack middle end q d t f l c l′ r
+
+-- ---------------------------------------------------------------- bytes alone
+
+-- byte i of the storage s gets byte i of t or of f
+abbrev pub byte-selected : ℕ → BitOperand → Bytes → Bytes → ℕ → InstructionKind
+byte-selected s q t f i = select-byte (spot s i) q (byte-at t i) (byte-at f i)
+
+-- both values are bytes, with no record from top to end, and so is the destination
+pub record Alone (bit : Bool) (t f : Val) (top end : ℕ) (x y : Bytes) : Type 0 where
+  pub bytes : bit ≡ false
+  pub none-stand : top ≡ end
+  pub first : t .repr ≡ Rep.Bytes x
+  pub second : f .repr ≡ Rep.Bytes y
+
+abbrev pub sides-by : Bool → Val → Val → ℕ → ℕ → Sides → Type 0
+sides-by bit t f top end (Sides.Bytes x y) = Alone bit t f top end x y
+sides-by bit t f top end Sides.Others = Unit {0}
+
+-- bytes alone where the answer says so; of others it says nothing
+pub record MeetsSides (bit : Bool) (t f : Val) (top end : ℕ) (r : Sides) : Type 0 where
+  pub shown : sides-by bit t f top end r

@@ -5,6 +5,7 @@ use emission::Temporary;
 use lir::BitOperand;
 use lir::ByteOperand;
 use lir::ByteStorage;
+use lir::Bytes;
 use lir::InstructionKind;
 use lir::StorageId;
 use parts::Cursor;
@@ -13,6 +14,7 @@ use parts::Operand;
 use reads::At;
 use tables::Counts;
 use values::Lowered;
+use values::Repr;
 use values::State;
 use values::Value;
 ghost use mathlib.Core.Path.{_≡_};
@@ -22,7 +24,7 @@ ghost use lib.ListN.{length};
 ghost use Rattle.spec.specs.Lir as spec-lir;
 ghost use Rattle.spec.specs.Readable.{Readable};
 ghost use Rattle.spec.specs.Select.{select-piece};
-ghost use Rattle.lir.specs.Abstract.{tab, bit-operand-of, byte-operand-of};
+ghost use Rattle.lir.specs.Abstract.{tab, bit-operand-of, byte-operand-of, Small};
 ghost use Rattle.tables.specs.Tables.{tables-of};
 ghost use Rattle.emission.specs.Appends.{Room};
 ghost use Rattle.emission.specs.Emits.{Emits};
@@ -31,15 +33,21 @@ ghost use Rattle.emission.specs.Temporaries.{location};
 ghost use Rattle.values.specs.Heads.{head-of, operands-of, Sound-value};
 ghost use Rattle.values.specs.Left.{bufs, counters-in, MeetsValue};
 ghost use Rattle.values.specs.Stack.{Stands, heads, selects};
-ghost use Rattle.parts.specs.Operands.{operand-of, Ready};
+ghost use Rattle.parts.specs.Operands.{operand-of, before-first, Ready};
 ghost use Rattle.reads.specs.Reading.{at-of, StepRoom};
-ghost use Rattle.selects.specs.Selecting.{target, target-count, targets, Both, FillRoom, fills, fills-and-reads, pieces, MeetsPiece, MeetsStep};
+ghost use Rattle.selects.specs.Selecting.{target, target-count, targets, Both, FillRoom, fills, fills-and-reads, pieces, byte-selected, MeetsPiece, MeetsSides, MeetsStep};
 
 // What one piece answers: the counters and both cursors behind it, that a side is over, or the number of a refusal.
 enum Step {
     More(Counters, Cursor, Cursor),
     Over,
     Refused(u64),
+}
+
+// Two values of bytes alone, into bytes; or any others.
+enum Sides {
+    Bytes(Bytes, Bytes),
+    Others,
 }
 
 // ---------------------------------------------------------------- a piece
@@ -49,7 +57,7 @@ fn select_byte(code: &mut [u8], c: Counters, to: StorageId, i: u64, q: BitOperan
     ensures { λ r. ⌜ Emits (now (code .entry)) c (spec-lir.select-byte (record { storage = to .0; offset = i }) (bit-operand-of q) (byte-operand-of t) (byte-operand-of f) ∷ []) (now (code .exit)) r ⌝ }
 {
     let byte = ByteStorage { storage: to, offset: i };
-    emission::emit(code, c, InstructionKind::SelectByte(byte, q, t, f))
+    emission::emit_select_byte(code, c, byte, q, t, f)
 }
 
 fn select_bit(code: &mut [u8], c: Counters, to: StorageId, q: BitOperand, t: BitOperand, f: BitOperand) -> Counters
@@ -131,6 +139,63 @@ fn select_pieces(stack: &[u64], code: &mut [u8], c: Counters, to: StorageId, bit
     }
 }
 
+// ---------------------------------------------------------------- bytes alone
+
+// The first n bytes of both sides.
+fn select_bytes(code: &mut [u8], c: Counters, to: StorageId, n: u64, q: BitOperand, t: Bytes, f: Bytes) -> Counters
+    requires { ⌜ (Small t) × (Small f) × (Room n c) ⌝ }
+    ensures { λ r. ⌜ Emits (now (code .entry)) c (tab (byte-selected (to .0) (bit-operand-of q) t f) 0 n) (now (code .exit)) r ⌝ }
+{
+    let mut counters = c;
+    let mut i: u64 = 0;
+    while i < n {
+        counters = select_byte(code, counters, to, i, q, lir::byte_at(t, i), lir::byte_at(f, i));
+        i += 1;
+    }
+    counters
+}
+
+// Bytes alone: no records stand from the top to `end`, so that no cursor has to look for any.
+fn sides_of(bit: bool, t: Value, f: Value, top: usize, end: usize) -> Sides
+    ensures { λ r. ⌜ MeetsSides bit t f top end r ⌝ }
+{
+    if bit {
+        return Sides::Others;
+    }
+    if top != end {
+        return Sides::Others;
+    }
+    let a = t.repr;
+    let b = f.repr;
+    let Repr::Bytes(x) = a else {
+        return Sides::Others;
+    };
+    let Repr::Bytes(y) = b else {
+        return Sides::Others;
+    };
+    Sides::Bytes(x, y)
+}
+
+// ---------------------------------------------------------------- two values
+
+// n destinations, from the first operands on.
+fn select_values(stack: &[u64], code: &mut [u8], c: Counters, to: StorageId, bit: bool, n: u64, q: BitOperand, t: Value, f: Value, top: usize, middle: usize, end: usize) -> Emitted
+    requires { ⌜ (Both (now stack) top middle end t f) × (Room n c) × (n ≤ 4294967296) ⌝ }
+    ensures { λ r. ⌜ MeetsCode n (now (code .entry)) c (pieces (now (stack .entry)) middle end (bit-operand-of q) (tab (target (to .0) bit) 0 n) (before-first t top) (before-first f middle)) (now (code .exit)) r ⌝ }
+{
+    match sides_of(bit, t, f, top, end) {
+        Sides::Bytes(x, y) => {
+            let m = emission::lesser(n, emission::lesser(x.total, y.total));
+            Emitted::Done(select_bytes(code, c, to, m, q, x, y))
+        }
+        Sides::Others => {
+            let a = parts::operands(t, top);
+            let b = parts::operands(f, middle);
+            select_pieces(stack, code, c, to, bit, 0, n, q, a, b, middle, end)
+        }
+    }
+}
+
 fn target_count(bit: bool, size: u64) -> u64
     ensures { λ r. ⌜ r ≡ target-count bit size ⌝ }
 {
@@ -150,9 +215,7 @@ fn select_to_location(stack: &[u64], code: &mut [u8], c: Counters, to: StorageId
     }
     let bit = ty == 0;
     let n = target_count(bit, size);
-    let a = parts::operands(t, top);
-    let b = parts::operands(f, middle);
-    select_pieces(stack, code, c, to, bit, 0, n, q, a, b, middle, end)
+    select_values(stack, code, c, to, bit, n, q, t, f, top, middle, end)
 }
 
 // ---------------------------------------------------------------- select

@@ -1,7 +1,7 @@
 -- Worked tickets with their answers, and what it is that all of a list hold.
 use Prim.Native.Nat.{ℕ}
 use Prim.Native.String.{String}
-use mathlib.Core.List.{List, [], _∷_, map}
+use mathlib.Core.List.{List, map}
 use mathlib.Core.Path.{_≡_}
 use Rattle.spec.specs.Text.{text}
 use Rattle.spec.specs.Answer.{answer, Answer, refused, accepted}

@@ -1,25 +1,22 @@
 -- DEMAND 3: the listing of an accepted answer costs no more than its ticket shows.
 use Prim.Native.Nat.{ℕ, _+_, _*_}
-use mathlib.Core.Bool.{Bool, true, false}
 use mathlib.Core.List.{List, [], _∷_}
 use mathlib.Core.Option.{some}
-use mathlib.Core.Path.{_≡_, refl, sym, ap, _∙_}
+use mathlib.Core.Path.{_≡_, refl, ap, _∙_}
 use native.Mathlib.Omega.{arith}
-use lib.Dec.{leb}
 use lib.ListN.{length}
 use Rattle.spec.specs.Limits.{type-depth-limit}
 use Rattle.spec.specs.Ticket.{Tables, NodeLine, type-size-in, nowhere}
 use Rattle.spec.specs.Readable.{Readable, line-sum, root}
 use Rattle.spec.specs.Read.{read-ticket}
 use Rattle.spec.specs.Read as reading
-use Rattle.spec.specs.Lir.{Value, Listing}
-use Rattle.spec.specs.Monad.{Counters, Out, Outcome, done}
-use Rattle.spec.specs.Monad as monad
+use Rattle.spec.specs.Lir.{Listing}
 use Rattle.spec.specs.Lower.{lowered}
 use Rattle.spec.specs.Print.{print-listing}
 use Rattle.spec.specs.ReadBack.{read-listing}
-use Rattle.spec.specs.Answer.{Answer, refused, accepted, listing-of, fitted, of-lowering, of-reading, answer}
+use Rattle.spec.specs.Answer.{listing-of}
 use Rattle.spec.specs.Demands.{total-size, CostBound}
+use Rattle.spec.proofs.Answers.{printed}
 use Rattle.spec.proofs.CostLogic.{Cost, Fits, fits-trans, cost-of}
 use Rattle.spec.proofs.CostReads.{size-of}
 use Rattle.spec.proofs.CostTree.{tree-budget}
@@ -63,35 +60,6 @@ stored-sum : (T : Tables) → Readable T → line-sum (size-of T) (T .nodes) ≡
 unfolding total-size
 stored-sum T R = line-sum-same (size-of T) (λ ty. type-size-in type-depth-limit T ty) (R .stored-size) (T .nodes)
 
--- ---------------------------------------------------------------- an answer
-
--- the bytes are those of a lowering's listing
-record Printed (T : Tables) (s : List ℕ) : Type 0 where
-  value : Value
-  counters : Counters
-  out : Out
-  lowers-to : lowered T ≡ done value counters out
-  bytes : print-listing (listing-of T value counters out) ≡ s
-
--- what is accepted is what was printed
-fitted-bytes : (room : ℕ) (p s : List ℕ) → fitted room p ≡ accepted s → p ≡ s
-unfolding fitted
-fitted-bytes room p s e = by (leb (length p) room) e
-  where
-    by : (b : Bool) → elim b as (λ _. Answer) [ true ↦ accepted p | false ↦ refused 28 0 ] ≡ accepted s → p ≡ s
-    by true g = cc
-    by false g = cc
-
-printed : (T : Tables) (room : ℕ) (s : List ℕ) (x : Outcome Value) → lowered T ≡ x → of-lowering T room x ≡ accepted s → Printed T s
-unfolding of-lowering
-printed T room s (monad.refused n l) e g = absurd (let z : _≡_ {A = ℕ} 0 1 = cc in omega arith)
-printed T room s (done v c o) e g =
-    record { value = v; counters = c; out = o; lowers-to = e; bytes = fitted-bytes room (print-listing (listing-of T v c o)) s g }
-
-answered : (ticket : List ℕ) (room : ℕ) (s : List ℕ) (T : Tables) → read-ticket ticket ≡ reading.accepted T → answer ticket room ≡ accepted s → Printed T s
-unfolding answer of-reading
-answered ticket room s T e g = printed T room s (lowered T) refl (rw e at g)
-
 -- THE THEOREM
 pub cost-bound : ((s : List ℕ) (T : Tables) → read-ticket s ≡ reading.accepted T → Readable T)
     → ((l : Listing) → read-listing (print-listing l) ≡ some l)
@@ -99,13 +67,13 @@ pub cost-bound : ((s : List ℕ) (T : Tables) → read-ticket s ≡ reading.acce
 unfolding listing-of lowered
 cost-bound readable round-trip ticket buffer s T read accepts =
     let R = readable ticket T read in
-    let A = answered ticket (length buffer) s T read accepts in
+    let A = printed ticket s (length buffer) T read accepts in
     let l = listing-of T (A .value) (A .counters) (A .out) in
-    let W = lowers T (R .types) nowhere _ (root T) (A .value) (A .counters) (A .out) (A .lowers-to) in
+    let W = lowers T (R .types) nowhere _ (root T) (A .value) (A .counters) (A .out) (A .lowers) in
     let B : Fits (cost-of (A .out)) (ticket-budget (total-size T) (length (T .nodes))) = fits-trans (W .cost) (rw (stored-sum T R) at (root-within T R)) in
     record {
       listing = l;
-      reads = ap read-listing (sym (A .bytes)) ∙ round-trip l;
+      reads = ap read-listing (A .is) ∙ round-trip l;
       instructions = B .instructions;
       storages = B .storages;
       bytes = B .bytes;

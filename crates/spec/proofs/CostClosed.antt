@@ -13,7 +13,8 @@ use Rattle.spec.specs.Lir.{BitOperand, Storage, StorageKind, Value, Valu
 use Rattle.spec.specs.Monad.{Counters, Out, Lower, done}
 use Rattle.spec.specs.Lower.{lower-expression, lower-expressions, expression-as-bit}
 use Rattle.spec.specs.Demands.{kind-of, numbered, writes-inside}
-use Rattle.spec.proofs.CostLogic.{Cost, _⊞_, Any, Fits, cost-of, Each, none-left, _also_, Advanced, Kind, Here, Ok, Does, and-left, and-right}
+use Rattle.spec.proofs.Bools.{and-left, and-right}
+use Rattle.spec.proofs.CostLogic.{Cost, _⊞_, Any, Fits, cost-of, Each, none-left, _also_, Advanced, Kind, Here, Ok, Does}
 use Rattle.spec.proofs.CostSteps.{budget}
 use Rattle.spec.proofs.CostReads.{reading, size-of, weight-of, records-of, Small}
 use Rattle.spec.proofs.CostLocal.{Own, own-step}

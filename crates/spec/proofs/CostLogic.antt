@@ -1,10 +1,10 @@
 -- A logic of what a step appends: how much, under which numbers, and where its instructions write.
 -- L stands for all the storages that a listing will have: cost and writes are claimed where L has what the step appends.
 use Prim.Native.Nat.{ℕ, suc, _+_, _≤_}
-use mathlib.Core.Bool.{Bool, true, false, _&&_}
+use mathlib.Core.Bool.{true}
 use mathlib.Core.List.{List, [], _∷_, _++_}
 use mathlib.Core.Option.{some}
-use mathlib.Core.Path.{_≡_, refl}
+use mathlib.Core.Path.{_≡_}
 use native.Mathlib.Omega.{arith}
 use lib.Dec.{eqb}
 use lib.ListN.{length, length-append}
@@ -12,6 +12,7 @@ use Rattle.spec.specs.Hir.{At}
 use Rattle.spec.specs.Lir.{Storage, StorageKind, Instruction}
 use Rattle.spec.specs.Monad.{Counters, Out, Outcome, refused, done, Lower, _⊕_, prepend, bind-to, _>>=_, _>>_}
 use Rattle.spec.specs.Demands.{all-bytes, kind-of, writes, all-inside, writes-inside, numbered}
+use Rattle.spec.proofs.Bools.{and-true, and-left, and-right}
 
 -- ---------------------------------------------------------------- the three measures
 
@@ -81,17 +82,6 @@ Any a = Unit {0}
 
 -- ---------------------------------------------------------------- two steps, one behind the other
 
-pub and-both : {a b : Bool} → a ≡ true → b ≡ true → a && b ≡ true
-and-both p q = rw (p, q)
-
-pub and-left : (a b : Bool) → a && b ≡ true → a ≡ true
-and-left true b h = refl
-and-left false b h = h
-
-pub and-right : (a b : Bool) → a && b ≡ true → b ≡ true
-and-right true b h = h
-and-right false b h = cc
-
 each-left : {A : Type 0} {P : A → Type 0} (xs ys : List A) → Each P (xs ++ ys) → Each P xs
 each-left [] ys h = none-left
 each-left (x ∷ xs) ys (p also h) = p also each-left xs ys h
@@ -109,14 +99,14 @@ writes-append : (L : List Storage) (is js : List Instruction) → writes-inside 
 unfolding writes-inside
 writes-append L [] js p q = q
 writes-append L (i ∷ is) js p q =
-    and-both (and-left (all-inside L (writes (i .kind))) (writes-inside L is) p)
+    and-true (and-left (all-inside L (writes (i .kind))) (writes-inside L is) p)
     (writes-append L is js (and-right (all-inside L (writes (i .kind))) (writes-inside L is) p) q)
 
 numbered-append : (n m : ℕ) (ss ts : List Storage) → m ≡ n + length ss → numbered n ss ≡ true → numbered m ts ≡ true → numbered n (ss ++ ts) ≡ true
 unfolding numbered
 numbered-append n m [] ts e p q = let f : n ≡ m = omega arith in rw f q
 numbered-append n m (s ∷ ss) ts e p q =
-    and-both (and-left (eqb (s .id) n) (numbered (suc n) ss) p)
+    and-true (and-left (eqb (s .id) n) (numbered (suc n) ss) p)
     (numbered-append (suc n) m ss ts (omega arith) (and-right (eqb (s .id) n) (numbered (suc n) ss) p) q)
 
 advanced-append : {c d e : Counters} {o p : Out} → Advanced c d o → Advanced d e p → Advanced c e (_⊕_ o p)

@@ -32,9 +32,11 @@ use Rattle.spec.specs.Allocation.{width-of, bits-of, odd-bits}
 use Rattle.spec.specs.Operators.{rotate-direction}
 use Rattle.spec.specs.Arithmetic.{rotates, byte-rotates, first-storage, first-operand, byte-rotate, shifts}
 use Rattle.spec.specs.Demands.{writes}
-use Rattle.spec.proofs.CostLogic.{Each, none-left, _also_, and-left, and-right}
+use Rattle.spec.proofs.Bools.{and-left, and-right}
+use Rattle.spec.proofs.Lengths.{length-rotates}
+use Rattle.spec.proofs.CostLogic.{Each, none-left, _also_}
 use Rattle.spec.proofs.CostSteps.{Inside}
-use Rattle.spec.proofs.CostWrites.{Byte, writes-byte, writes-bytes, rotates-length, rotates-each}
+use Rattle.spec.proofs.CostWrites.{Byte, writes-byte, writes-bytes, rotates-each}
 use Rattle.spec.proofs.CostReads.{size-of, bools, bools-of}
 
 -- ---------------------------------------------------------------- what a width of 8 leaves over
@@ -82,7 +84,7 @@ record Turns (L : List Storage) (ks : List InstructionKind) : Type 0 where
 
 module _ {L : List Storage} {d : ByteStorage} (p : Byte L d) where
   few-turns : (dir : RotateDirection) (x : ByteOperand) (n : ℕ) → T (leb n 4) → Turns L (rotates dir d x n)
-  few-turns dir x n h = record { count = omega (arith, rotates-length dir d x n, leb→le n 4 h); each = rotates-each dir d x n p }
+  few-turns dir x n h = record { count = omega (arith, length-rotates dir d x n, leb→le n 4 h); each = rotates-each dir d x n p }
 
   turns : (dir : RotateDirection) (x : ByteOperand) (n : ℕ) → n < 8 → Turns L (byte-rotates dir d x n)
   unfolding byte-rotates writes

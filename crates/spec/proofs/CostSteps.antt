@@ -1,9 +1,9 @@
 -- The smallest steps of the monad in the logic of cost.
-use Prim.Native.Nat.{ℕ, suc, _+_, _*_, _≤_, zero-le}
+use Prim.Native.Nat.{ℕ, _+_, _*_, _≤_, zero-le}
 use mathlib.Core.Bool.{Bool, true, false}
 use mathlib.Core.List.{List, [], _∷_}
 use mathlib.Core.Option.{Option, none, some}
-use mathlib.Core.Path.{_≡_, refl, ap}
+use mathlib.Core.Path.{_≡_, refl}
 use native.Mathlib.Omega.{arith}
 use native.Mathlib.Nat.{le-refl}
 use borrow.Author.Tests.{eq-eqb}
@@ -13,7 +13,9 @@ use Rattle.spec.specs.Lir.{Storage, StorageKind, Purpose, Instruction, I
 use Rattle.spec.specs.Monad.{Counters, Lower, pure, refuse, own, made-all, emit, emits, narrow, or-refuse, require}
 use Rattle.spec.specs.Allocation.{allocate-storage}
 use Rattle.spec.specs.Demands.{kind-bytes, all-bytes, writes, all-inside, writes-inside, numbered}
-use Rattle.spec.proofs.CostLogic.{Cost, free, Each, none-left, _also_, each-first, Advanced, Kind, Does, Any, and-both}
+use Rattle.spec.proofs.Bools.{and-true}
+use Rattle.spec.proofs.Lengths.{length-made}
+use Rattle.spec.proofs.CostLogic.{Cost, free, Each, none-left, _also_, each-first, Advanced, Kind, Does, Any}
 
 -- so many instructions, and nothing else; so many storages with so many bytes
 abbrev pub emitted : ℕ → Cost
@@ -34,14 +36,10 @@ no-storage : (c : Counters) (ns : List ℕ) (is : List Instruction) → Advanced
 unfolding numbered
 no-storage c ns is = record { storage = omega arith; temporary = omega arith; ids = refl }
 
-length-made : (h : At) (ks : List InstructionKind) → length (made-all h ks) ≡ length ks
-length-made h [] = refl
-length-made h (k ∷ ks) = ap suc (length-made h ks)
-
 made-inside : (L : List Storage) (h : At) (ks : List InstructionKind) → Each (Inside L) ks → writes-inside L (made-all h ks) ≡ true
 unfolding writes-inside
 made-inside L h [] e = refl
-made-inside L h (k ∷ ks) (p also e) = and-both (p .all) (made-inside L h ks e)
+made-inside L h (k ∷ ks) (p also e) = and-true (p .all) (made-inside L h ks e)
 
 module _ {A : Type 0} {L : List Storage} {P : Type 0} where
   pub answers : {a : A} {Q : A → Type 0} → (P → Q a) → Does L P (pure a) free Q
@@ -93,7 +91,7 @@ module _ {L : List Storage} {P : Type 0} where
   allocating k p r =
       record {
         run = λ h c. (
-          record { storage = refl; temporary = refl; ids = and-both (eq-eqb (c .storage) (c .storage) refl) refl },
+          record { storage = refl; temporary = refl; ids = and-true (eq-eqb (c .storage) (c .storage) refl) refl },
           λ given here. record { cost = omega arith; inside = refl; result = each-first here },
         );
       }

@@ -16,7 +16,8 @@ use Rattle.spec.specs.Arithmetic.{masks, mask-location}
 use Rattle.spec.specs.Demands.{kind-bytes}
 use Rattle.spec.proofs.CostLogic.{Cost, _⊞_, free, Does, Each, Kind, Any, _then_, within, giving, under}
 use Rattle.spec.proofs.CostSteps.{allocated, emitted, answers, refuses, emitting, allocating}
-use Rattle.spec.proofs.CostWrites.{Byte, bytes-inside, length-bytes-from, masks-length, masks-each}
+use Rattle.spec.proofs.Lengths.{length-bytes-from}
+use Rattle.spec.proofs.CostWrites.{Byte, bytes-inside, masks-length, masks-each}
 use Rattle.spec.proofs.CostReads.{size-of, weight-of, bools-of, reading, Small, read-location-does}
 
 -- n bytes, all of them in the new storage

@@ -3,7 +3,7 @@ use Prim.Native.Nat.{ℕ, zero, suc, _+_, _≤_, _<_, zero-le, min}
 use mathlib.Core.Bool.{Bool, true, false, cond}
 use mathlib.Core.List.{List, [], _∷_}
 use mathlib.Core.Option.{Option, none, some}
-use mathlib.Core.Path.{_≡_, refl, ap}
+use mathlib.Core.Path.{_≡_, refl}
 use native.Mathlib.Omega.{arith}
 use lib.Dec.{eqb}
 use borrow.Author.Tests.{lt-ltb}
@@ -13,7 +13,8 @@ use Rattle.spec.specs.Lir as lir
 use Rattle.spec.specs.Allocation.{bytes-from}
 use Rattle.spec.specs.Arithmetic.{carry-out, zip2, zip3, masks, rotates}
 use Rattle.spec.specs.Demands.{kind-bytes, to-byte, to-bit, to-carry, to-bytes, write-inside, all-inside, writes}
-use Rattle.spec.proofs.CostLogic.{Each, none-left, _also_, each-first, each-rest, and-both, Kind}
+use Rattle.spec.proofs.Bools.{and-true}
+use Rattle.spec.proofs.CostLogic.{Each, none-left, _also_, each-first, each-rest, Kind}
 use Rattle.spec.proofs.CostSteps.{Inside}
 
 -- a byte of L that an instruction may write
@@ -25,11 +26,11 @@ pub record Byte (L : List Storage) (d : ByteStorage) : Type 0 where
 module _ {L : List Storage} {k : InstructionKind} where
   pub writes-byte : {d : ByteStorage} → writes k ≡ to-byte d ∷ [] → Byte L d → Inside L k
   unfolding all-inside
-  writes-byte e p = record { all = rw e (and-both (p .write) refl) }
+  writes-byte e p = record { all = rw e (and-true (p .write) refl) }
 
   pub writes-two : {d f : ByteStorage} → writes k ≡ to-byte d ∷ to-byte f ∷ [] → Byte L d → Byte L f → Inside L k
   unfolding all-inside
-  writes-two e p q = record { all = rw e (and-both (p .write) (and-both (q .write) refl)) }
+  writes-two e p q = record { all = rw e (and-true (p .write) (and-true (q .write) refl)) }
 
   pub writes-bit : {s : ℕ} → writes k ≡ to-bit s ∷ [] → Kind L s lir.bit → Inside L k
   unfolding all-inside write-inside
@@ -37,12 +38,12 @@ module _ {L : List Storage} {k : InstructionKind} where
 
   writes-sum : {d : ByteStorage} {s : ℕ} → writes k ≡ to-byte d ∷ to-carry s ∷ [] → Byte L d → Kind L s lir.carry → Inside L k
   unfolding all-inside write-inside
-  writes-sum e p q = record { all = rw e (and-both (p .write) (rw (q .found))) }
+  writes-sum e p q = record { all = rw e (and-true (p .write) (rw (q .found))) }
 
 all-written : {L : List Storage} {ds : List ByteStorage} → Each (Byte L) ds → all-inside L (to-bytes ds) ≡ true
 unfolding all-inside to-bytes
 all-written none-left = refl
-all-written (p also e) = and-both (p .write) (all-written e)
+all-written (p also e) = and-true (p .write) (all-written e)
 
 pub writes-bytes : {L : List Storage} {k : InstructionKind} {ds : List ByteStorage} → writes k ≡ to-bytes ds → Each (Byte L) ds → Inside L k
 writes-bytes e p = record { all = rw e (all-written p) }
@@ -69,11 +70,6 @@ bytes-inside s o zero k e h = none-left
 bytes-inside s o (suc n) k e h = byte-inside s o k e (omega arith) also bytes-inside s (suc o) n k e (omega arith)
 
 -- ---------------------------------------------------------------- loops
-
-pub length-bytes-from : (s o n : ℕ) → length (bytes-from s o n) ≡ n
-unfolding bytes-from
-length-bytes-from s o zero = refl
-length-bytes-from s o (suc n) = ap suc (length-bytes-from s (suc o) n)
 
 pub zip2-length : (f : ℕ → ByteStorage → ByteOperand → InstructionKind) (i : ℕ) (ds : List ByteStorage) (bs : List ByteOperand)
     → length (zip2 f i ds bs) ≤ length ds
@@ -129,8 +125,3 @@ module _ {L : List Storage} where
   unfolding rotates writes
   rotates-each dir d x zero p = none-left
   rotates-each dir d x (suc n) p = writes-byte refl p also rotates-each dir d (lir.stored d) n p
-
-pub rotates-length : (dir : lir.RotateDirection) (d : ByteStorage) (x : ByteOperand) (n : ℕ) → length (rotates dir d x n) ≡ n
-unfolding rotates
-rotates-length dir d x zero = refl
-rotates-length dir d x (suc n) = ap suc (rotates-length dir d (lir.stored d) n)

@@ -2,6 +2,8 @@ pub mod Cases
 pub mod Stars
 pub mod Readings
 pub mod Bools
+pub mod Lengths
+pub mod Answers
 pub mod Split
 pub mod Digits
 pub mod ListingReaders

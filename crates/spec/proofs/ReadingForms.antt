@@ -2,7 +2,7 @@
 use Prim.Native.Nat.{ℕ}
 use mathlib.Core.Bool.{Bool, true, false}
 use mathlib.Core.List.{List, [], _∷_}
-use mathlib.Core.Option.{Option, none, some}
+use mathlib.Core.Option.{Option, none, some, Option·none-ne-some as none≢some, Option·some-injective as of-some}
 use mathlib.Core.Path.{_≡_, refl, ap}
 use Rattle.spec.specs.Text.{bytes, same, number}
 use Rattle.spec.specs.Forms.{
@@ -22,7 +22,6 @@ use Rattle.spec.specs.Forms.{
   values,
 }
 use Rattle.spec.specs.Readable.{All}
-use Rattle.spec.proofs.ReadingTests.{none≢some}
 
 -- numbers that have these fields' classes in order, and then all that one
 pub data Args : List Field → Option Field → List Arg → Type 0 where
@@ -71,40 +70,37 @@ all-nodes (more x rest) = ap (λ xs. x ∷ xs) (all-nodes rest)
 
 -- ---------------------------------------------------------------- from the text
 
-pub some-is : {A : Type 0} {x y : A} → some x ≡ some y → x ≡ y
-some-is {A} {x} {y} e = cc
-
 -- what stands behind a line's word is read by its fields
 rest-formed : (f : Option Field) (ws : List (List ℕ)) (xa : List Arg) → rest-args f ws ≡ some xa → Args [] f xa
 unfolding rest-args
-rest-formed f [] xa e = rw (← some-is e) done
-rest-formed none (w ∷ ws) xa e = absurd (none≢some e)
+rest-formed f [] xa e = rw (← of-some _ _ e) done
+rest-formed none (w ∷ ws) xa e = absurd (none≢some _ e)
 rest-formed (some f) (w ∷ ws) xa e = by (number w) refl (rest-args (some f) ws) refl (λ ya. rest-formed (some f) ws ya)
   where
     by : (x : Option ℕ) → number w ≡ x → (o : Option (List Arg)) → rest-args (some f) ws ≡ o
         → ((ya : List Arg) → rest-args (some f) ws ≡ some ya → Args [] (some f) ya) → Args [] (some f) xa
-    by none p o q formed = absurd (none≢some (rw p at e))
-    by (some x) p none q formed = absurd (none≢some (rw (p, q) at e))
-    by (some x) p (some ya) q formed = rw (← some-is (rw (p, q) at e)) (more x (formed ya q))
+    by none p o q formed = absurd (none≢some _ (rw p at e))
+    by (some x) p none q formed = absurd (none≢some _ (rw (p, q) at e))
+    by (some x) p (some ya) q formed = rw (← of-some _ _ (rw (p, q) at e)) (more x (formed ya q))
 
 pub args-formed : (fs : List Field) (f : Option Field) (ws : List (List ℕ)) (xa : List Arg) → args-of fs f ws ≡ some xa → Args fs f xa
 unfolding args-of
 args-formed [] f ws xa e = rest-formed f ws xa e
-args-formed (g ∷ fs) f [] xa e = absurd (none≢some e)
+args-formed (g ∷ fs) f [] xa e = absurd (none≢some _ e)
 args-formed (g ∷ fs) f (w ∷ ws) xa e = by (number w) refl (args-of fs f ws) refl (λ ya. args-formed fs f ws ya)
   where
     by : (x : Option ℕ) → number w ≡ x → (o : Option (List Arg)) → args-of fs f ws ≡ o
         → ((ya : List Arg) → args-of fs f ws ≡ some ya → Args fs f ya) → Args (g ∷ fs) f xa
-    by none p o q formed = absurd (none≢some (rw p at e))
-    by (some x) p none q formed = absurd (none≢some (rw (p, q) at e))
-    by (some x) p (some ya) q formed = rw (← some-is (rw (p, q) at e)) (next x (formed ya q))
+    by none p o q formed = absurd (none≢some _ (rw p at e))
+    by (some x) p none q formed = absurd (none≢some _ (rw (p, q) at e))
+    by (some x) p (some ya) q formed = rw (← of-some _ _ (rw (p, q) at e)) (next x (formed ya q))
 
 -- what holds of every rule holds of the one that is found
 pub found : {A : Type 0} (P : Rule A → Type 0) (rs : List (Rule A)) (w : List ℕ) (r : Rule A) → All P rs → find rs w ≡ some r → P r
 unfolding find All
-found P [] w r h e = absurd (none≢some e)
+found P [] w r h e = absurd (none≢some _ e)
 found P (s ∷ rs) w r h e = by (same (bytes (s .word)) w) refl (λ q. found P rs w r (h .1) q)
   where
     by : (b : Bool) → same (bytes (s .word)) w ≡ b → (find rs w ≡ some r → P r) → P r
-    by true p later = rw (some-is (rw (p, find) at e)) at (h .0)
+    by true p later = rw (of-some _ _ (rw (p, find) at e)) at (h .0)
     by false p later = later (rw (p, find) at e)

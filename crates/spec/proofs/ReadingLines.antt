@@ -1,7 +1,7 @@
 -- Every line that can be read has the form of its head: checked rule by rule, and carried over from the rules to the text.
 use Prim.Native.Nat.{ℕ}
 use mathlib.Core.List.{List, [], _∷_}
-use mathlib.Core.Option.{Option, none, some}
+use mathlib.Core.Option.{Option, none, some, Option·none-ne-some as none≢some, Option·some-injective as of-some}
 use mathlib.Core.Path.{_≡_, refl}
 use Rattle.spec.specs.Text.{split, comma}
 use Rattle.spec.specs.Ticket.{
@@ -77,8 +77,7 @@ use Rattle.spec.specs.Forms.{
   values,
 }
 use Rattle.spec.specs.Readable.{All, type-parts, nodes-of-node, Counted}
-use Rattle.spec.proofs.ReadingTests.{none≢some}
-use Rattle.spec.proofs.ReadingForms.{Args, done, next, part-values, node-values, all-parts, all-nodes, some-is, args-formed, found}
+use Rattle.spec.proofs.ReadingForms.{Args, done, next, part-values, node-values, all-parts, all-nodes, args-formed, found}
 
 -- ---------------------------------------------------------------- forms by head
 
@@ -240,27 +239,27 @@ behind h (some xa) = some (record { head = h; args = xa })
 
 behind-formed : (h : Head) (o : Option (List Arg)) (l : Line) → behind h o ≡ some l → ((xa : List Arg) → o ≡ some xa → Formed h xa)
     → Formed (l .head) (l .args)
-behind-formed h none l e f = absurd (none≢some e)
-behind-formed h (some xa) l e f = rw (← some-is e) (f xa refl)
+behind-formed h none l e f = absurd (none≢some _ e)
+behind-formed h (some xa) l e f = rw (← of-some _ _ e) (f xa refl)
 
 type-formed : (ws : List (List ℕ)) (l : Line) → type-form ws ≡ some l → Formed (l .head) (l .args)
 unfolding type-form TypeRule
-type-formed [] l e = absurd (none≢some e)
+type-formed [] l e = absurd (none≢some _ e)
 type-formed (w ∷ ws) l e = by (find type-rules w) refl
   where
     by : (o : Option (Rule TypeWord)) → find type-rules w ≡ o → Formed (l .head) (l .args)
-    by none p = absurd (none≢some (rw p at e))
+    by none p = absurd (none≢some _ (rw p at e))
     by (some r) p =
         behind-formed (t-line (r .make)) (args-of (r .fields) (r .rest) ws) l (rw p at e)
         (λ xa q. found TypeRule type-rules w r type-rules-formed p xa (args-formed (r .fields) (r .rest) ws xa q))
 
 place-formed : (ws : List (List ℕ)) (l : Line) → place-form ws ≡ some l → Formed (l .head) (l .args)
 unfolding place-form
-place-formed [] l e = absurd (none≢some e)
+place-formed [] l e = absurd (none≢some _ e)
 place-formed (w ∷ ws) l e = by (find place-rules w) refl
   where
     by : (o : Option (Rule PlaceWord)) → find place-rules w ≡ o → Formed (l .head) (l .args)
-    by none p = absurd (none≢some (rw p at e))
+    by none p = absurd (none≢some _ (rw p at e))
     by (some r) p = behind-formed (p-line (r .make)) (args-of (r .fields) (r .rest) ws) l (rw p at e) (λ xa q. tt)
 
 node-args : (r : Rule NodeWord) (xa : List Arg) → NodeRule r → Args (type ∷ r .fields) (r .rest) xa → NodeFormed (r .make) xa
@@ -269,12 +268,12 @@ node-args r xa f (next ty rest) = node-formed ty (f _ rest)
 
 node-line-formed : (ws : List (List ℕ)) (l : Line) → node-form ws ≡ some l → Formed (l .head) (l .args)
 unfolding node-form
-node-line-formed [] l e = absurd (none≢some e)
-node-line-formed (t ∷ []) l e = absurd (none≢some e)
+node-line-formed [] l e = absurd (none≢some _ e)
+node-line-formed (t ∷ []) l e = absurd (none≢some _ e)
 node-line-formed (t ∷ w ∷ ws) l e = by (find node-rules w) refl
   where
     by : (o : Option (Rule NodeWord)) → find node-rules w ≡ o → Formed (l .head) (l .args)
-    by none p = absurd (none≢some (rw p at e))
+    by none p = absurd (none≢some _ (rw p at e))
     by (some r) p =
         behind-formed (n-line (r .make)) (args-of (type ∷ r .fields) (r .rest) (t ∷ ws)) l (rw p at e)
         (λ xa q. node-args r xa (found NodeRule node-rules w r node-rules-formed p) (args-formed (type ∷ r .fields) (r .rest) (t ∷ ws) xa q))
@@ -295,9 +294,9 @@ line-formed s l e = by (split comma s) refl
   where
     by-kind : (w : List ℕ) (ws : List (List ℕ)) → split comma s ≡ w ∷ ws → (o : Option (Rule Kind)) → find kind-rules w ≡ o
         → Formed (l .head) (l .args)
-    by-kind w ws q none p = absurd (none≢some (rw (q, p) at e))
+    by-kind w ws q none p = absurd (none≢some _ (rw (q, p) at e))
     by-kind w ws q (some r) p = form-formed (r .make) ws l (rw (q, p) at e)
 
     by : (fs : List (List ℕ)) → split comma s ≡ fs → Formed (l .head) (l .args)
-    by [] q = absurd (none≢some (rw q at e))
+    by [] q = absurd (none≢some _ (rw q at e))
     by (w ∷ ws) q = by-kind w ws q (find kind-rules w) refl

@@ -8,7 +8,7 @@ use lib.ListN.{length, getD, set, length-set}
 use Rattle.spec.specs.Forms.{Field, between, float-width, type-part, type, storage, place, node, Arg}
 use Rattle.spec.specs.Read.{Used, once, mark}
 use Rattle.spec.specs.Readable.{All-below}
-use Rattle.spec.proofs.ReadingTests.{and-left, and-right}
+use Rattle.spec.proofs.Bools.{and-left, and-right}
 use Rattle.spec.proofs.ReadingForms.{if-node, node-values}
 use Rattle.spec.proofs.ReadingPool.{open-sum, Marked}
 

@@ -15,7 +15,8 @@ use Rattle.spec.specs.Forms.{type, Arg, Head, f-line, s-line, v-line, g-
 use Rattle.spec.specs.Read.{Reading, refusal-of, depth-of, add-line, add, once, mark}
 use Rattle.spec.specs.Readable.{All, line-sum}
 use Rattle.spec.proofs.ReadingLists.{All-map, All-append}
-use Rattle.spec.proofs.ReadingTests.{and-left, and-right, passed, standing}
+use Rattle.spec.proofs.Bools.{and-left, and-right}
+use Rattle.spec.proofs.ReadingTests.{passed, standing}
 use Rattle.spec.proofs.ReadingForms.{node-values}
 use Rattle.spec.proofs.ReadingLines.{Formed, NodeFormed, node-formed}
 use Rattle.spec.proofs.ReadingArgs.{nodes-below, nodes-less-deep}

@@ -1,10 +1,9 @@
 -- What it means that a line passes every test of reading. A test that has no name outside the definitions is written here as it stands there.
 use Prim.Native.Nat.{ℕ, _≤_}
-use mathlib.Core.Bool.{Bool, true, false, _&&_, _||_, false≢true}
+use mathlib.Core.Bool.{Bool, true, false, _&&_, _||_}
 use mathlib.Core.List.{List, [], _∷_}
-use mathlib.Core.Option.{none, some}
+use mathlib.Core.Option.{none, Option·none-ne-some as none≢some}
 use mathlib.Core.Path.{_≡_, refl, sym}
-use native.Mathlib.Omega.{arith}
 use borrow.Author.Tests.{leb-true}
 use lib.Dec.{ltb, leb, eqb}
 use lib.ListN.{length}
@@ -32,19 +31,7 @@ use Rattle.spec.specs.Forms.{
 }
 use Rattle.spec.specs.Read.{Test, first-failed, Reading, refusal-of}
 use Rattle.spec.specs.Readable.{All}
-
--- ---------------------------------------------------------------- Booleans and options
-
-pub none≢some : {A : Type 0} {x : A} → none ≡ some x → ⊥
-none≢some {A} {x} e = let z : _≡_ {A = ℕ} 0 1 = cc in omega arith
-
-pub and-left : (a b : Bool) → a && b ≡ true → a ≡ true
-and-left true b h = refl
-and-left false b h = h
-
-pub and-right : (a b : Bool) → a && b ≡ true → b ≡ true
-and-right true b h = h
-and-right false b h = absurd (false≢true h)
+use Rattle.spec.proofs.Bools.{and-left, and-right}
 
 -- ---------------------------------------------------------------- the tests of a line
 
@@ -68,7 +55,7 @@ all-pass (t ∷ ts) e = by-test (t .passes) e (λ p. all-pass ts p)
     by-test : (b : Bool) → first-failed (record { refusal = t .refusal; passes = b } ∷ ts) ≡ none
         → (first-failed ts ≡ none → All (λ (t : Test). t .passes ≡ true) ts) → (b ≡ true) × All (λ (t : Test). t .passes ≡ true) ts
     by-test true e rest = (refl, rest e)
-    by-test false e rest = absurd (none≢some (sym e))
+    by-test false e rest = absurd (none≢some _ (sym e))
 
 abbrev test : ℕ → Bool → Test
 test n b = record { refusal = n; passes = b }

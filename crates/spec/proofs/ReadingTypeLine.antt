@@ -27,7 +27,8 @@ use Rattle.spec.specs.Ticket.{
 use Rattle.spec.specs.Forms.{between, Arg, t-line, values}
 use Rattle.spec.specs.Read.{Reading, refusal-of, alike, size-of, weight-of, depth-of}
 use Rattle.spec.specs.Readable.{All}
-use Rattle.spec.proofs.ReadingTests.{and-left, and-right, passed, ranged, standing, in-range}
+use Rattle.spec.proofs.Bools.{and-left, and-right}
+use Rattle.spec.proofs.ReadingTests.{passed, ranged, standing, in-range}
 use Rattle.spec.proofs.ReadingForms.{Args, done, next}
 use Rattle.spec.proofs.ReadingLines.{TypeFormed}
 use Rattle.spec.proofs.ReadingArgs.{parts-below, parts-less-deep}

@@ -1,5 +1,4 @@
 -- The readings of document 01 that docs/DECISIONS.md records, by number: the smallest tickets that show each, as one list with one claim.
-use Prim.Native.Nat.{ℕ}
 use Prim.Native.String.{String}
 use mathlib.Core.List.{List, [], _∷_}
 use mathlib.Core.Path.{refl}

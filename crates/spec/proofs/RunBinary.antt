@@ -45,7 +45,7 @@ use Rattle.numerics.specs.Numerics.{iadd, isub, iand, ior, ixor, ishl, ishr-u, 
 use Rattle.spec.specs.Machine.{Memory, Given, bytes-of, operands, byte-op, distance, shift-op, binary-op, defined, effect}
 use Rattle.spec.specs.Eval.{number, binary-numeric, distance-fits}
 use Rattle.spec.proofs.RunLogic.{both}
-use Rattle.spec.proofs.RunWords.{size, mask-last}
+use Rattle.spec.proofs.RunWords.{size, some-byte, mask-last}
 use Rattle.spec.proofs.RunLaws.{add-word, sub-word, bitwise-word}
 use Rattle.spec.proofs.RunBounds.{shift-lt, whole-lt, add-lt, sub-lt, bitwise-lt}
 use Rattle.spec.proofs.RunRuns.{effects, Total, no-more, and-then, total-zip}
@@ -186,11 +186,8 @@ module _ (G : Given) where
           wrote = rw (number-is hl, near) (spreads (shift-lt op w a b p (hl .fits)));
         }
       where
-        some-byte : size w ≡ suc ((w - 1) / 8)
-        some-byte = omega arith
-
         near : shift-op op w a (distance (operands M rs)) ≡ shift-op op w a b
-        near = shift-modulo op w a _ b (ap (λ (x : ℕ). x % w) (distance-is ((w - 1) / 8) b (rw some-byte at (hr .fixed))) ∙ lowest-decides w b (hr .fits) f)
+        near = shift-modulo op w a _ b (ap (λ (x : ℕ). x % w) (distance-is ((w - 1) / 8) b (rw (some-byte w p) at (hr .fixed))) ∙ lowest-decides w b (hr .fits) f)
 
     -- a byte turned by a constant, or one instruction
     turned-or-shifted : (op : ShiftOp) (dir : RotateDirection) → rotate-direction op ≡ some dir → (t : Bool) → byte-rotate w (bytes-from n 0 (size w)) ls rs ≡ t

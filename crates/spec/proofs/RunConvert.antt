@@ -34,6 +34,7 @@ use Rattle.spec.proofs.RunWords as words
 use Rattle.spec.proofs.RunLaws.{room-le, extend-wrap}
 use Rattle.spec.proofs.RunBounds.{wrap-lt, extend-lt, truth-lt}
 use Rattle.spec.proofs.RunRuns.{effects, Total, no-more, and-then, total-zip, total-map}
+use Rattle.spec.proofs.Lengths.{length-bytes-from}
 use Rattle.spec.proofs.RunFrames.{
   Agree,
   agree-refl,
@@ -50,7 +51,6 @@ use Rattle.spec.proofs.RunFrames.{
   copy-loop,
   zeros-run,
   zeros-le,
-  length-bytes-from,
   resize-run,
   zip2-zip3,
 }

@@ -1,7 +1,7 @@
 -- Each conversion, by the types that it goes between.
 use Prim.Native.Nat.{ℕ, _^_, _≤_, _<_}
 use mathlib.Core.Bool.{true, _&&_}
-use mathlib.Core.Option.{some}
+use mathlib.Core.Option.{some, Option·some-injective as of-some}
 use mathlib.Core.Path.{_≡_, refl, sym}
 use native.Mathlib.Nat.{le-trans, mod-eq-of-lt}
 use lib.Pow.{pow-mono}
@@ -24,7 +24,6 @@ use Rattle.spec.proofs.RunTyping.{Has, has-bits, bits-data, pointer-dat
 use Rattle.spec.proofs.RunValues.{Gives, rebased}
 use Rattle.spec.proofs.RunConvert.{resize-step, sign-step, to-boolean-step, from-boolean-step, reinterpret-step}
 use Rattle.spec.proofs.RunAfters.{number-after, flag-after, retyped}
-use Rattle.spec.proofs.RunOperations.{of-some}
 
 -- extension keeps a number that fits the smaller width
 extend-wraps : (v w a : ℕ) → a < 2 ^ v → v ≤ w → wrap v w a ≡ extend-u v w a
@@ -63,31 +62,31 @@ module _ (G : Given) (T : Tables) (R : TypesRight T) where
   conversion-step h hir.truncate s t d e v =
       let b = both _ _ ((both _ _ e) .0) in
       let B = bits-of-test T R t (b .1) in
-      number-after G T refl (bits-of-test T R s (b .0)) (λ bs n₁ M₁ l₁ a₁ w₁. rw (← by-width T B (of-some v)) (owned G h (rebased G l₁ a₁ (resize-step G T bs s t B w₁))))
+      number-after G T refl (bits-of-test T R s (b .0)) (λ bs n₁ M₁ l₁ a₁ w₁. rw (← by-width T B (of-some _ _ v)) (owned G h (rebased G l₁ a₁ (resize-step G T bs s t B w₁))))
   conversion-step h hir.zero-extend s t d e v =
       let c = both _ _ e in
       let b = both _ _ (c .0) in
       let B = bits-of-test T R t (b .1) in
       number-after G T refl (bits-of-test T R s (b .0)) (λ bs n₁ M₁ l₁ a₁ w₁.
-      rw (← by-width T B (of-some v), ← extend-wraps (width T s) (width T t) (number-in d) (w₁ .fits) (leb-true _ _ (c .1)))
+      rw (← by-width T B (of-some _ _ v), ← extend-wraps (width T s) (width T t) (number-in d) (w₁ .fits) (leb-true _ _ (c .1)))
       (owned G h (rebased G l₁ a₁ (resize-step G T bs s t B w₁))))
   conversion-step h hir.sign-extend s t d e v =
       let b = both _ _ ((both _ _ e) .0) in
       let A = bits-of-test T R s (b .0) in
       let B = bits-of-test T R t (b .1) in
-      number-after G T refl A (λ bs n₁ M₁ l₁ a₁ w₁. rw (← by-width T B (of-some v)) (owned G h (rebased G l₁ a₁ (sign-step G T bs s t A B w₁))))
+      number-after G T refl A (λ bs n₁ M₁ l₁ a₁ w₁. rw (← by-width T B (of-some _ _ v)) (owned G h (rebased G l₁ a₁ (sign-step G T bs s t A B w₁))))
   conversion-step h (hir.integer-to-float x) s t d e v = never-true e
   conversion-step h (hir.float-to-integer x y) s t d e v = never-true e
   conversion-step h hir.promote-float s t d e v = never-true e
   conversion-step h hir.demote-float s t d e v = never-true e
   conversion-step h hir.reinterpret s t d e v =
-      record { go = λ u n₁ M₁ g. rw (← of-some v) (owned G h (rebased G (g .later) (g .agree) (reinterpret-step G T u t (reinterpreted-has s t d e (g .has)) (g .denotes)))) }
+      record { go = λ u n₁ M₁ g. rw (← of-some _ _ v) (owned G h (rebased G (g .later) (g .agree) (reinterpret-step G T u t (reinterpreted-has s t d e (g .has)) (g .denotes)))) }
   conversion-step h hir.boolean-to-integer s t d e v =
       let b = both _ _ e in
       let B = bits-of-test T R t (b .1) in
-      flag-after G T R (eqb-true _ _ (b .0)) (λ c n₁ M₁ l₁ a₁ l f₁. rw (← by-width T B (of-some v)) (owned G h (rebased G l₁ a₁ (from-boolean-step G T 0 t B l f₁))))
+      flag-after G T R (eqb-true _ _ (b .0)) (λ c n₁ M₁ l₁ a₁ l f₁. rw (← by-width T B (of-some _ _ v)) (owned G h (rebased G l₁ a₁ (from-boolean-step G T 0 t B l f₁))))
   conversion-step h hir.integer-to-boolean s t d e v =
       let b = both _ _ e in
       let A = bits-of-test T R s (b .0) in
       number-after G T refl A (λ bs n₁ M₁ l₁ a₁ w₁.
-      rw (← of-some v) (owned G h (rebased G l₁ a₁ (retyped G T (sym (eqb-true _ _ (b .1))) (to-boolean-step G T (R .bool-first) bs s A w₁)))))
+      rw (← of-some _ _ v) (owned G h (rebased G l₁ a₁ (retyped G T (sym (eqb-true _ _ (b .1))) (to-boolean-step G T (R .bool-first) bs s A w₁)))))

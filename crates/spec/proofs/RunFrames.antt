@@ -239,11 +239,6 @@ zip2-zip3 f i [] bs = refl
 zip2-zip3 f i (d ∷ ds) [] = refl
 zip2-zip3 f i (d ∷ ds) (b ∷ bs) = ap (λ (l : List InstructionKind). f i d b ∷ l) (zip2-zip3 f (suc i) ds bs)
 
-pub length-bytes-from : (s o n : ℕ) → length (bytes-from s o n) ≡ n
-unfolding bytes-from
-length-bytes-from s o zero = refl
-length-bytes-from s o (suc n) = ap suc (length-bytes-from s (suc o) n)
-
 -- what stands in a storage below b stays there
 pub fixed-stored : (b D : ℕ) → D < b → (n o : ℕ) (M : Memory) (vs : List ℕ) → operands M (map stored (bytes-from D o n)) ≡ vs → Fixed b M (map stored (bytes-from D o n)) vs
 unfolding bytes-from

@@ -2,7 +2,7 @@
 use Prim.Native.Nat.{ℕ, zero, suc, _/_, _%_, _^_, _≤_, _<_}
 use mathlib.Core.Bool.{Bool, true}
 use mathlib.Core.List.{List, [], _∷_}
-use mathlib.Core.Option.{Option, none, some, Option·none-ne-some}
+use mathlib.Core.Option.{Option, none, some, Option·none-ne-some, Option·some-injective as of-some}
 use mathlib.Core.Path.{_≡_, refl, sym, ap, _∙_}
 use native.Mathlib.Omega.{arith}
 use native.Mathlib.Nat.{le-trans}
@@ -92,9 +92,6 @@ pub found-map : {A B : Type 0} (f : A → B) (x : Option A) {b : B} → mapped f
 found-map f none {b} e = absurd (Option·none-ne-some b e)
 found-map f (some a) e = record { it = a; is = refl; same = cc }
 
-pub of-some : {A : Type 0} {x y : A} → some x ≡ some y → x ≡ y
-of-some e = cc
-
 module _ (G : Given) (T : Tables) (R : TypesRight T) (N : NeedsOf T) (n₀ : ℕ) (older : length (T .storages) ≤ n₀) (M₀ : Memory) (P : Proper M₀) where
   -- lowered later, with the older storages as they were at the start, it gives what it means at the start
   abbrev pub Lowers : Expr → Type 0
@@ -105,7 +102,7 @@ module _ (G : Given) (T : Tables) (R : TypesRight T) (N : NeedsOf T) (n₀ : ℕ
   pub boolean-case : (h : At) (b : ℕ) → typed T (boolean h b) ≡ true → sound T (boolean h b) ≡ true → Lowers (boolean h b)
   unfolding typed sound eval lower-expression
   boolean-case h b t s d v n M z a =
-      let k : flag b ≡ d = of-some v in
+      let k : flag b ≡ d = of-some _ _ v in
       let e : h .ty ≡ 0 = eqb-true (h .ty) 0 t in
       let l : b < 2 = omega (arith, leb-true b 1 s) in
       rw (← k) (ending G (purely G _) (here (rw e (has-bool (R .bool-first) l)) (of-bit (record { holds = λ M′ q. refl }))))
@@ -129,7 +126,7 @@ module _ (G : Given) (T : Tables) (R : TypesRight T) (N : NeedsOf T) (n₀ : ℕ
   unfolding typed in-order eval lower-expression
   integer-case h v t o d e n M z a =
       let B = bits-of-test T R (h .ty) t in
-      rw (← by-width T B (of-some e)) (owned G h (integer-step v B (fits-width (h .ty) v B o) n M))
+      rw (← by-width T B (of-some _ _ e)) (owned G h (integer-step v B (fits-width (h .ty) v B o) n M))
 
   zeros : (M : Memory) → operands M (immediate 0 ∷ immediate 0 ∷ []) ≡ bytes-of 2 0
   unfolding bytes-of
@@ -138,7 +135,7 @@ module _ (G : Given) (T : Tables) (R : TypesRight T) (N : NeedsOf T) (n₀ : ℕ
   pub null-case : (h : At) → typed T (null-pointer h) ≡ true → Lowers (null-pointer h)
   unfolding typed eval lower-expression
   null-case h t d v n M z a =
-      let k : number 2 0 ≡ d = of-some v in
+      let k : number 2 0 ≡ d = of-some _ _ v in
       let e : h .ty ≡ 1 = eqb-true (h .ty) 1 t in
       rw (← k) (ending G (purely G _) (here (rw e (has-pointer T R 0 (omega arith))) (of-bytes (record { holds = λ M′ q. zeros M′ }))))
 
@@ -146,17 +143,17 @@ module _ (G : Given) (T : Tables) (R : TypesRight T) (N : NeedsOf T) (n₀ : ℕ
   unfolding typed eval lower-expression
   static-case h k o t d v n M z a =
       let s = found (nth (T .statics) k) _ v in
-      rw (← of-some (s .goes)) (owned G h (retyped G T (sym (eqb-true (h .ty) 1 t)) (static-step G T R k o (s .it) (s .is))))
+      rw (← of-some _ _ (s .goes)) (owned G h (retyped G T (sym (eqb-true (h .ty) 1 t)) (static-step G T R k o (s .it) (s .is))))
 
   pub function-case : (h : At) (f : ℕ) → typed T (function-address h f) ≡ true → Lowers (function-address h f)
   unfolding typed eval lower-expression
-  function-case h f t d v n M z a = rw (← of-some v) (owned G h (retyped G T (sym (eqb-true (h .ty) 1 t)) (function-step G T R f)))
+  function-case h f t d v n M z a = rw (← of-some _ _ v) (owned G h (retyped G T (sym (eqb-true (h .ty) 1 t)) (function-step G T R f)))
 
   pub address-case : (h : At) (p : Place) → typed T (address-of h p) ≡ true → Lowers (address-of h p)
   unfolding typed eval lower-expression
   address-case h p t d v n M z a =
       let s = found (based T p) _ v in
-      rw (← of-some (s .goes)) (owned G h (retyped G T (sym (eqb-true (h .ty) 1 t)) (address-of-step G T R N p (s .it) (s .is))))
+      rw (← of-some _ _ (s .goes)) (owned G h (retyped G T (sym (eqb-true (h .ty) 1 t)) (address-of-step G T R N p (s .it) (s .is))))
 
   -- the meaning's own test of what is read
   abbrev fits-by : ℕ → Option Data → Bool
@@ -178,7 +175,7 @@ module _ (G : Given) (T : Tables) (R : TypesRight T) (N : NeedsOf T) (n₀ : ℕ
       let t₂ = both _ _ (t₁ .0) in
       let B = bits-of-test T R (h .ty) (t₂ .0) in
       let s = found (eval T G M₀ e) _ v in
-      rw (← by-width T B (of-some (s .goes)))
+      rw (← by-width T B (of-some _ _ (s .goes)))
       (_then_ G (ih (t₁ .1) (s .it) (s .is) n M z a) (number-after G T (eqb-true _ _ (t₂ .1)) B (λ bs n₁ M₁ l₁ a₁ w₁.
       owned G h (rebased G l₁ a₁ (unary-step G T (h .ty) B w₁ op (h .ty))))))
 

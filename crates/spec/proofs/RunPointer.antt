@@ -31,6 +31,7 @@ use Rattle.spec.specs.Eval.{number, based}
 use Rattle.spec.proofs.RunWords.{length-bytes-of, bytes-of-mod, ripple-bytes, adding, resized, size}
 use Rattle.spec.proofs.RunLaws.{room-le}
 use Rattle.spec.proofs.RunRuns.{total-zip}
+use Rattle.spec.proofs.Lengths.{length-bytes-from}
 use Rattle.spec.proofs.RunFrames.{
   agree-refl,
   agree-byte,
@@ -42,7 +43,6 @@ use Rattle.spec.proofs.RunFrames.{
   at,
   loop-run,
   add-loop,
-  length-bytes-from,
   resize-run,
 }
 use Rattle.spec.proofs.RunHoare.{From, _then_, _next_, ending, Is, it, emitting, emitting-one, purely, got, at-it, requiring, allocates-carry}

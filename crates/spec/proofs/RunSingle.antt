@@ -1,8 +1,8 @@
 -- A single operation: one unary, binary, compare or convert over reads and constants.
 use Prim.Native.Nat.{ℕ, suc, _-_, _/_}
-use mathlib.Core.Bool.{Bool, true, _&&_}
+use mathlib.Core.Bool.{true, _&&_}
 use mathlib.Core.List.{_∷_, map}
-use mathlib.Core.Option.{some}
+use mathlib.Core.Option.{some, Option·some-injective as of-some}
 use mathlib.Core.Path.{_≡_, refl}
 use native.Mathlib.Omega.{arith}
 use lib.Dec.{eqb}
@@ -46,8 +46,9 @@ use Rattle.spec.specs.Machine.{Memory, Given, bytes-of}
 use Rattle.spec.specs.Typed.{type-of, is-bits, typed, conversion-typed, is-leaf, single-operation}
 use Rattle.spec.specs.Eval.{Data, flag, number, data-of, eval, conversion-data, in-order}
 use Rattle.spec.specs.RunClaims.{Ran, SingleRule}
+use Rattle.spec.proofs.Bools.{and-true}
 use Rattle.spec.proofs.RunLogic.{both, never-true}
-use Rattle.spec.proofs.RunWords.{size}
+use Rattle.spec.proofs.RunWords.{size, some-byte}
 use Rattle.spec.proofs.RunRuns.{kinds, effects}
 use Rattle.spec.proofs.RunFrames.{Agree, agree-refl, Left}
 use Rattle.spec.proofs.RunHoare.{From, _then_, _next_, ending, purely, got, at-it, requiring, owned, emitting, outcome, ran}
@@ -55,7 +56,6 @@ use Rattle.spec.proofs.RunTyping.{IsBits, by-width, bits-of-test}
 use Rattle.spec.proofs.RunSteps.{temporary, destinations, read-back}
 use Rattle.spec.proofs.RunValues.{of-bytes-data}
 use Rattle.spec.proofs.RunConvert.{spelled, total-bit}
-use Rattle.spec.proofs.RunOperations.{of-some}
 use Rattle.spec.specs.RunNeeds.{sound}
 use Rattle.spec.proofs.RunFinal.{running}
 
@@ -81,11 +81,8 @@ module _ (G : Given) (T : Tables) (R : TypesRight T) where
   unfolding boolean-to-integer value-bit
   spelled-out {n} {w} {M} k ty b B =
       _then_ G (got G 24 (constant b)) (at-it G (_then_ G (temporary G T ty B) (at-it G (_then_ G (destinations G T ty _ B) (at-it G
-      (_next_ G (emitting G _ (total-bit G T _ _)) (at-it G (ending G (read-back G T ty n B) (rw some-byte
+      (_next_ G (emitting G _ (total-bit G T _ _)) (at-it G (ending G (read-back G T ty n B) (rw (some-byte w (B .some-width))
       (spelled-held ty ((w - 1) / 8) b (spelled G T ((w - 1) / 8) (record { holds = λ M′ q. refl }))))))))))))
-    where
-      some-byte : size w ≡ suc ((w - 1) / 8)
-      some-byte = omega (arith, B .some-width)
 
   kept : {n : ℕ} {M : Memory} (k ty b : ℕ) → From G n M (reinterpreted T (value k (bit-value (constant b))) ty) (Held n M (flag b))
   unfolding reinterpreted data-of
@@ -101,11 +98,11 @@ module _ (G : Given) (T : Tables) (R : TypesRight T) where
   constant-converted h k (hir.float-to-integer x y) b z t v = never-true t
   constant-converted h k hir.promote-float b z t v = never-true t
   constant-converted h k hir.demote-float b z t v = never-true t
-  constant-converted h k hir.reinterpret b z t v = rw (← of-some v) (kept (k .ty) (h .ty) b)
+  constant-converted h k hir.reinterpret b z t v = rw (← of-some _ _ v) (kept (k .ty) (h .ty) b)
   constant-converted h k hir.boolean-to-integer b z t v =
       let c = both (eqb (k .ty) 0) (is-bits T (h .ty)) t in
       let B = bits-of-test T R (h .ty) (c .1) in
-      rw (← by-width T B (of-some v)) (spelled-out (k .ty) (h .ty) b B)
+      rw (← by-width T B (of-some _ _ v)) (spelled-out (k .ty) (h .ty) b B)
   constant-converted h k hir.integer-to-boolean b z t v = bool-no-bits T R (k .ty) z ((both _ _ t) .0)
 
   constant-case : {n : ℕ} {M : Memory} (M₀ : Memory) (h k : At) (op : ConversionOp) (b : ℕ) (d : Data) → typed T (convert h op (boolean k b)) ≡ true
@@ -146,9 +143,6 @@ module _ (T : Tables) (R : TypesRight T) where
     all-sound-in : {e : Expr} → sound T e ≡ true → View e
     converts-constant : {h k : At} {op : ConversionOp} {b : ℕ} → View (convert h op (boolean k b))
 
-  and-sound : {a b : Bool} → a ≡ true → b ≡ true → a && b ≡ true
-  and-sound p q = rw (p, q) refl
-
   converted-view : (h : At) (op : ConversionOp) (e : Expr) → is-leaf e ≡ true → View (convert h op e)
   unfolding is-leaf sound
   converted-view h op (boolean k b) l = converts-constant
@@ -187,7 +181,7 @@ module _ (T : Tables) (R : TypesRight T) where
       let t₃ = both _ _ (t₂ .0) in
       let t₄ = both _ _ (t₃ .0) in
       let l₁ = both _ _ l in
-      and-sound (leaf-sound x (l₁ .0) (t₂ .1) (rw (eqb-true (type-of x) (h .ty) (t₄ .1)) (t₄ .0))) (leaf-sound y (l₁ .1) (t₁ .1) (rw (eqb-true (type-of y) (h .ty) (t₃ .1)) (t₄ .0)))
+      and-true (leaf-sound x (l₁ .0) (t₂ .1) (rw (eqb-true (type-of x) (h .ty) (t₄ .1)) (t₄ .0))) (leaf-sound y (l₁ .1) (t₁ .1) (rw (eqb-true (type-of y) (h .ty) (t₃ .1)) (t₄ .0)))
 
   compare-sound : (h : At) (op : hir.CompareOp) (x y : Expr) → is-leaf x && is-leaf y ≡ true → typed T (compare h op x y) ≡ true → sound T x && sound T y ≡ true
   unfolding typed
@@ -197,7 +191,7 @@ module _ (T : Tables) (R : TypesRight T) where
       let t₃ = both _ _ (t₂ .0) in
       let t₄ = both (eqb (h .ty) 0) _ (t₃ .0) in
       let l₁ = both _ _ l in
-      and-sound (leaf-sound x (l₁ .0) (t₂ .1) (t₄ .1)) (leaf-sound y (l₁ .1) (t₁ .1) (rw (eqb-true (type-of y) (type-of x) (t₃ .1)) (t₄ .1)))
+      and-true (leaf-sound x (l₁ .0) (t₂ .1) (t₄ .1)) (leaf-sound y (l₁ .1) (t₁ .1) (rw (eqb-true (type-of y) (type-of x) (t₃ .1)) (t₄ .1)))
 
   single-view : (e : Expr) → single-operation e ≡ true → typed T e ≡ true → View e
   unfolding single-operation sound

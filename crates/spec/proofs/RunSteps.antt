@@ -18,7 +18,8 @@ use Rattle.spec.specs.Eval.{number}
 use Rattle.spec.proofs.RunWords.{size, length-bytes-of, le-exact, mask-last, ripple}
 use Rattle.spec.proofs.RunLaws.{room-le, masked-fits}
 use Rattle.spec.proofs.RunRuns.{effects, total-masks}
-use Rattle.spec.proofs.RunFrames.{agree-refl, Fixed, fixed-stored, Left, left-then, set-bytes-left, Loop, loop-run, mask-run, length-bytes-from}
+use Rattle.spec.proofs.Lengths.{length-bytes-from}
+use Rattle.spec.proofs.RunFrames.{agree-refl, Fixed, fixed-stored, Left, left-then, set-bytes-left, Loop, loop-run, mask-run}
 use Rattle.spec.proofs.RunHoare.{From, After, _then_, _next_, ending, Is, allocates, emitting, purely, got, at-it, from-refuse}
 use Rattle.spec.proofs.RunTyping.{IsBits, has-bits}
 use Rattle.spec.proofs.RunValues.{Word, of-bytes, Gives}

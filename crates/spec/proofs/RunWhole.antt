@@ -1,7 +1,7 @@
 -- The whole expression: an accepted, rightly typed expression, run, leaves older storages as they were and its meaning in the value's pieces.
 use Prim.Native.Nat.{ℕ, suc, _+_, _≤_}
 use mathlib.Core.Bool.{Bool, true, false, not, _||_}
-use mathlib.Core.Option.{some}
+use mathlib.Core.Option.{some, Option·some-injective as of-some}
 use mathlib.Core.Path.{_≡_, refl, sym, ap, _∙_}
 use native.Mathlib.Omega.{arith}
 use native.Mathlib.Nat.{le-trans}
@@ -60,7 +60,6 @@ use Rattle.spec.proofs.RunConverting.{conversion-step}
 use Rattle.spec.proofs.RunOperations.{
   found,
   found-map,
-  of-some,
   Lowers,
   boolean-case,
   integer-case,
@@ -131,7 +130,7 @@ module _ (G : Given) (T : Tables) (R : TypesRight T) (N : NeedsOf T) (n₀ : ℕ
       let w = found (eval T G M₀ c) _ (u .goes) in
       let ex : type-of x ≡ h .ty = eqb-true _ _ (t₂ .0) in
       let ey : type-of y ≡ h .ty = eqb-true _ _ (t₂ .1) in
-      rw (← of-some (w .goes))
+      rw (← of-some _ _ (w .goes))
       (_then_ G (ix (t₄ .1) (s .it) (s .is) n M z a) (record {
         go = λ p n₁ M₁ k₁.
             _then_ G (iy (t₅ .1) (u .it) (u .is) n₁ M₁ (le-trans z (k₁ .later)) (agree-trans z a (k₁ .agree))) (record {
@@ -162,7 +161,7 @@ module _ (G : Given) (T : Tables) (R : TypesRight T) (N : NeedsOf T) (n₀ : ℕ
       let B = bits-of-test T R (type-of o) (t₃ .1) in
       let s = found (eval T G M₀ b) _ v in
       let u = found (eval T G M₀ o) _ (s .goes) in
-      rw (← of-some (u .goes))
+      rw (← of-some _ _ (u .goes))
       (_then_ G (ib (t₄ .1) (s .it) (s .is) n M z a) (pointer-after G T R (eqb-true _ _ (t₂ .1)) (λ ls n₁ M₁ l₁ a₁ w₁.
       _then_ G (io (t₅ .1) (u .it) (u .is) n₁ M₁ (le-trans z l₁) (agree-trans z a a₁)) (number-after G T refl B (λ rs n₂ M₂ l₂ a₂ w₂.
       owned G h (rebased G (le-trans l₁ l₂) (agree-trans l₁ a₁ a₂) (retyped G T (sym (eqb-true (h .ty) 1 (t₂ .0)))
@@ -183,7 +182,7 @@ module _ (G : Given) (T : Tables) (R : TypesRight T) (N : NeedsOf T) (n₀ : ℕ
 
   pub nothing-case : AllRightly no-exprs
   unfolding evals lower-expressions
-  nothing-case ds v n M z a = rw (← of-some v) (nothing-read G T)
+  nothing-case ds v n M z a = rw (← of-some _ _ v) (nothing-read G T)
 
   pub more-case : (e : Expr) (es : Exprs) (ty i : ℕ) → parts-typed T (e ∷ᵉ es) ty i ≡ true
       → (typed T e ≡ true → Rightly e) → (parts-typed T es ty (suc i) ≡ true → AllRightly es) → AllRightly (e ∷ᵉ es)

@@ -189,6 +189,10 @@ mask-bytes r (suc k) n h =
 abbrev pub size : ℕ → ℕ
 size w = (w + 7) / 8
 
+-- a width has a first byte
+pub some-byte : (w : ℕ) → 0 < w → size w ≡ suc ((w - 1) / 8)
+some-byte w p = omega arith
+
 pub bytes-of-mod : (k n : ℕ) → bytes-of k (n % 256 ^ k) ≡ bytes-of k n
 unfolding bytes-of
 bytes-of-mod zero n = refl

@@ -1,6 +1,4 @@
 -- Document 01's ★ lines: the printed case and every edge, as one list with one claim that is computed.
-use Prim.Native.Nat.{ℕ}
-use Prim.Native.String.{String}
 use mathlib.Core.List.{List, [], _∷_}
 use mathlib.Core.Path.{refl}
 use Rattle.spec.specs.Answer.{computing}

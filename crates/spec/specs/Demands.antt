@@ -1,7 +1,7 @@
 -- What demands 2 and 3 say of the bytes left in the buffer, for every text and every lent buffer.
-use Prim.Native.Nat.{ℕ, zero, suc, _+_, _*_, _≤_, _<_}
+use Prim.Native.Nat.{ℕ, suc, _+_, _*_, _≤_, _<_}
 use mathlib.Core.Bool.{Bool, true, false, _&&_}
-use mathlib.Core.List.{List, [], _∷_, _++_}
+use mathlib.Core.List.{List, [], _∷_}
 use mathlib.Core.Option.{Option, none, some}
 use mathlib.Core.Path.{_≡_}
 use lib.Dec.{eqb, ltb}
@@ -41,7 +41,7 @@ use Rattle.spec.specs.ReadBack.{read-listing}
 use Rattle.spec.specs.Machine.{Memory, Proper, Given, run}
 use Rattle.spec.specs.Typed.{typed, single-operation}
 use Rattle.spec.specs.Eval.{Data, data-of, eval, in-order}
-use Rattle.spec.specs.Answer.{Answer, refused, accepted, answer}
+use Rattle.spec.specs.Answer.{accepted, answer}
 
 -- ---------------------------------------------------------------- demand 3
 

@@ -1,5 +1,5 @@
 -- What an expression means in a memory, by the WebAssembly numerics; what a lowered value's pieces hold; and when reads are in order.
-use Prim.Native.Nat.{ℕ, zero, suc, _+_, _*_, _%_, _^_}
+use Prim.Native.Nat.{ℕ, zero, suc, _+_, _%_, _^_}
 use mathlib.Core.Bool.{Bool, true, false, _&&_, _||_, not}
 use mathlib.Core.List.{List, [], _∷_, map}
 use mathlib.Core.Option.{Option, none, some}
@@ -91,7 +91,6 @@ use Rattle.spec.specs.Ticket.{
   tTuple,
   tOpaque,
   StorageLine,
-  PlacedLine,
   Tables,
   typeAt,
   storageAt,
@@ -103,9 +102,9 @@ use Rattle.spec.specs.Lir as lir
 use Rattle.spec.specs.Monad.{Outcome, refused, done, Counters}
 use Rattle.spec.specs.Operands.{nth}
 use Rattle.spec.specs.Allocation.{type-size, Location, bytes-from}
-use Rattle.spec.specs.Places.{Base, is-one, resolve-place, resolve-place-base}
-use Rattle.spec.specs.Machine.{Memory, Given, le, operands, bit-of, pick, is-some}
-use Rattle.spec.specs.Typed.{type-of, is-bits, width}
+use Rattle.spec.specs.Places.{Base, resolve-place, resolve-place-base}
+use Rattle.spec.specs.Machine.{Memory, Given, le, operands, bit-of, pick}
+use Rattle.spec.specs.Typed.{type-of, width}
 
 -- ---------------------------------------------------------------- data
 

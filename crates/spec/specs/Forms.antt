@@ -1,7 +1,7 @@
 -- The forms of a ticket's lines (document 01, 'Ticket'): a line's head and the numbers behind it, each with its field's class.
-use Prim.Native.Nat.{ℕ, zero, suc}
+use Prim.Native.Nat.{ℕ}
 use Prim.Native.String.{String}
-use mathlib.Core.Bool.{Bool, true, false}
+use mathlib.Core.Bool.{true, false}
 use mathlib.Core.List.{List, [], _∷_}
 use mathlib.Core.Option.{Option, none, some}
 use Rattle.spec.specs.Text.{bytes, same, split, number, comma}

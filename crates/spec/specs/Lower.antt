@@ -1,6 +1,6 @@
 -- `lower_expression`, `lower_expressions`, `expression_as_bit`.
 use Prim.Native.Nat.{ℕ}
-use mathlib.Core.List.{List, [], _∷_}
+use mathlib.Core.List.{[], _∷_}
 use lib.Dec.{leb}
 use lib.ListN.{length}
 use Rattle.spec.specs.Limits.{constant-limit}

@@ -1,8 +1,8 @@
 -- What reading guarantees of the tables of a ticket that it accepts: what lowering, cost and running lean on.
-use Prim.Native.Nat.{ℕ, zero, suc, _+_, _-_, _≤_, _<_}
+use Prim.Native.Nat.{ℕ, _+_, _-_, _≤_, _<_}
 use mathlib.Core.List.{List, [], _∷_}
 use mathlib.Core.Path.{_≡_}
-use lib.ListN.{length, getD}
+use lib.ListN.{length}
 use Rattle.spec.specs.Limits.{
   type-lines,
   storage-lines,
@@ -51,21 +51,14 @@ use Rattle.spec.specs.Ticket.{
   nAggregate,
   nExtract,
   nInsert,
-  TypeLine,
   StorageLine,
   PlacedLine,
-  PlaceLine,
   NodeLine,
   Tables,
-  noType,
   typeAt,
-  storageAt,
-  placeLineAt,
-  nodeAt,
   arg,
   type-size-by,
   weight-by,
-  sum,
   type-size-in,
   exprAt,
 }

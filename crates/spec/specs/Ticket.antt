@@ -1,7 +1,7 @@
 -- A ticket's lines as tables, and the expression that a node stands for.
 use Prim.Native.Nat.{ℕ, zero, suc, _+_, _*_, _/_}
 use mathlib.Core.List.{List, [], _∷_}
-use lib.ListN.{length, getD}
+use lib.ListN.{getD}
 use Rattle.spec.specs.Hir.{
   IntegerUnaryOp,
   IntegerBinaryOp,

@@ -1,25 +1,23 @@
 -- What the steps leave. Assumes nothing.
 use mathlib.Core.Path.{_≡_, refl, sym, ap, subst, _∙_}
-use mathlib.Core.Bool.{Bool, true, false}
-use mathlib.Core.List.{List, [], _∷_, _++_, append-nil}
+use mathlib.Core.List.{List, append-nil}
 use mathlib.Core.Option.{none, some}
-use Prim.Native.Nat.{ℕ, zero, suc, _+_, _/_, _%_, _^_, _≤_, _<_}
+use Prim.Native.Nat.{ℕ, zero, suc, _+_, _/_, _^_, _≤_, _<_}
 use native.Mathlib.Omega.{arith}
 use native.Mathlib.Nat.{div-div-eq-div-mul, pow-suc, div-one}
-use lib.Dec.{leb}
 use borrow.Author.Tests.{lt-ltb, le-leb, lt-leb}
-use lib.ListN.{length, take, getD, List·getD-eq-default}
+use lib.ListN.{List·getD-eq-default}
 use Rattle.spec.specs.Hir as hir
 use Rattle.spec.specs.Hir.{Place, variable, static, field, element, byte-offset, null-pointer}
 use Rattle.spec.specs.Ticket as ticket
 use Rattle.spec.specs.Ticket.{Tables, placeAt, nowhere}
 use Rattle.spec.specs.Readable.{Readable}
-use Rattle.spec.specs.Lir.{ByteOperand, immediate, Value, value, bytes-value, bit-value, stored-bit, Purpose, condition, integer-to-boolean}
+use Rattle.spec.specs.Lir.{ByteOperand, Value, value, bytes-value, bit-value, stored-bit, Purpose, condition, integer-to-boolean}
 use Rattle.spec.specs.Monad.{Lower, Outcome, done, refused, nothing, prepend, bind-to, _>>=_, _>>_, or-refuse, require}
 use Rattle.spec.specs.Monad as monad
 use Rattle.spec.specs.Operands.{value-type, value-repr, repr-bytes, repr-bit, value-bytes, integer-bytes}
 use Rattle.spec.specs.Operators.{compare-op}
-use Rattle.spec.specs.Allocation.{Location, type-size, bool-type, width-of, integer-width, allocate-storage, allocate-bit-temporary}
+use Rattle.spec.specs.Allocation.{Location, bool-type, width-of, integer-width, allocate-storage, allocate-bit-temporary}
 use Rattle.spec.specs.Places.{with-type, location-in, resolve-place}
 use Rattle.spec.specs.ReadBytes.{read-location}
 use Rattle.spec.specs.Conversions.{not-zero, value-as-bit, integer-to-bool, lower-compare}
@@ -33,14 +31,14 @@ use Rattle.emission.specs.declared.Allocated.{Allocated}
 use Rattle.emission.specs.declared.Temporary.{Temporary}
 use Rattle.emission.specs.declared.Width.{Width}
 use Rattle.emission.specs.Appends.{Texts, texts, counters-of}
-use Rattle.emission.specs.Does.{Does, Refuses, out}
-use Rattle.emission.specs.Forms.{HasWidth, width-option, width-refused, comparing, comparing-zero, compare-behind, not-zero-behind}
+use Rattle.emission.specs.Does.{Does, Refuses}
+use Rattle.emission.specs.Forms.{HasWidth, width-option, comparing, comparing-zero, prepend-nothing, compare-behind, not-zero-behind}
 use Rattle.tables.specs.declared.Counts.{Counts}
 use Rattle.tables.specs.Tables.{type-kind-at, type-word, type-args, tables-of, size-at}
 use Rattle.tables.proofs.Laws.{Looks, looks-here, size-here}
 use Rattle.places.specs.declared.Resolved.{Resolved}
 use Rattle.places.specs.declared.Location.{Location as Loc}
-use Rattle.places.specs.Answers.{Answer, Answers, outcome-of}
+use Rattle.places.specs.Answers.{outcome-of}
 use Rattle.places.specs.Abstract.{location-from, resolved-answer, location-at, Locates}
 use Rattle.values.specs.declared.State.{State}
 use Rattle.values.specs.declared.Value.{Value as Val}
@@ -48,12 +46,12 @@ use Rattle.values.specs.declared.Repr.{Repr as Rep}
 use Rattle.values.specs.declared.Lowered.{Lowered}
 use Rattle.values.specs.declared.BitLowered.{BitLowered}
 use Rattle.values.specs.Heads.{bytes-shape, shape-in, head-of, flat-of}
-use Rattle.values.specs.Left.{Bufs, bufs, counters-in, marked, values-words, Left, MeetsValue, MeetsBit}
-use Rattle.values.specs.Laws.{Placed, left-none}
+use Rattle.values.specs.Left.{Bufs, bufs, counters-in, MeetsValue, MeetsBit}
+use Rattle.values.specs.Laws.{Placed, left-none, left-does}
 use Rattle.reads.specs.Reading.{TypeRoom}
 use Rattle.reads.proofs.Laws.{leaf-meets}
 use Rattle.steps.specs.declared.Flag.{Flag}
-use Rattle.steps.specs.Steps.{constant-of, bool-in, behind-new, flag-option, HasBit, MeetsNew, new-by}
+use Rattle.steps.specs.Steps.{constant-of, bool-in, behind-new, HasBit, MeetsNew, new-by}
 
 -- ---------------------------------------------------------------- constants
 
@@ -116,28 +114,6 @@ pub has-width : (rows nodes lists : List ℕ) (c : Counts) (ty : ℕ) {w : Width
 has-width rows nodes lists c ty e = record { is = looks-here rows nodes lists c looks-width ty ∙ e }
 
 -- ---------------------------------------------------------------- a new bit
-
-prepend-nothing : {A : Type 0} (o : Outcome A) → prepend nothing o ≡ o
-prepend-nothing (refused n l) = refl
-prepend-nothing (done a c p) = refl
-
--- what a step has done that leaves no records
-pub left-does : {A : Type 0} {k : ℕ} {code store code′ store′ : List ℕ} {s : State} {m : Lower A} {a : A} {c1 : Counters} (n stack : List ℕ) (h : hir.At)
-    (d : Does k (texts code store) (s .counters) m a (texts code′ store′) c1)
-    → Left (bufs code store n stack) s [] (counters-of c1) (out (d .storages) (d .kinds) h) (bufs code′ store′ n stack) (record { counters = c1; top = s .top })
-unfolding marked values-words
-left-does {s = s} n stack h d =
-    record {
-      appends = d .appends h;
-      numbers = refl;
-      narrows = refl;
-      parts = [];
-      shows = refl;
-      sound = tt;
-      topped = omega arith;
-      stacked = sym (append-nil (take (s .top) stack));
-      long = refl;
-    }
 
 module _ {T : Tables} (purpose : Purpose) (v : Value) {t t1 : Texts} {c c1 : Counters} where
   pub zero-does : {w k : ℕ} {bs : List ByteOperand} → HasWidth T (value-type v) (Width.Found w) → repr-bytes (value-repr v) ≡ some bs

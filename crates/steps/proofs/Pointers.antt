@@ -1,18 +1,17 @@
 -- What the steps that make a pointer leave. Assumes nothing.
 use mathlib.Core.Path.{_≡_, refl, sym, ap, _∙_}
 use mathlib.Core.Bool.{Bool, true, false}
-use mathlib.Core.Option.{some, none}
 use mathlib.Core.List.{List, [], _∷_, map, append-nil}
-use Prim.Native.Nat.{ℕ, _+_, _≤_}
+use Prim.Native.Nat.{ℕ, _≤_}
 use native.Mathlib.Omega.{arith}
 use borrow.Author.Tests.{ne-eqb}
 use lib.ListN.{length, take, set}
 use lib.Seq.{set-out}
 use Rattle.spec.specs.Hir as hir
-use Rattle.spec.specs.Ticket.{Tables, typeAt, storageAt, placeAt}
+use Rattle.spec.specs.Ticket.{Tables, storageAt, placeAt}
 use Rattle.spec.specs.Readable.{TypesRight}
 use Rattle.spec.specs.Lir.{ByteStorage, stored, InstructionKind, function-address, address-of, Value, value, bytes-value}
-use Rattle.spec.specs.Monad.{Lower, Outcome, done, refused, nothing, prepend, _>>=_, _>>_, emit, require, or-refuse}
+use Rattle.spec.specs.Monad.{Lower, Outcome, done, refused, nothing, _>>=_, _>>_, emit, require, or-refuse}
 use Rattle.spec.specs.Monad as monad
 use Rattle.spec.specs.Allocation.{type-size, allocate-sized, allocate-temporary, bytes-from, bytes-at, location-bytes}
 use Rattle.spec.specs.ReadBytes.{read-plain, read-word, read-bytes-as-type, read-location}
@@ -26,6 +25,7 @@ use Rattle.emission.specs.declared.Counters.{Counters}
 use Rattle.emission.specs.Appends.{texts}
 use Rattle.emission.specs.Emits.{Emits, Allocates}
 use Rattle.emission.specs.Does.{Does, out, does-allocating}
+use Rattle.emission.specs.Forms.{prepend-nothing}
 use Rattle.emission.specs.Temporaries.{location, place-sized}
 use Rattle.tables.specs.declared.Counts.{Counts}
 use Rattle.tables.specs.declared.Placed.{Placed}
@@ -40,8 +40,8 @@ use Rattle.values.specs.declared.State.{State}
 use Rattle.values.specs.declared.Lowered.{Lowered}
 use Rattle.values.specs.Heads.{root, head-of}
 use Rattle.values.specs.Left.{Bufs, bufs, counters-in, marked, values-words, MeetsValue}
+use Rattle.values.specs.Laws.{left-does}
 use Rattle.steps.specs.Steps.{pointer-in, narrowed-by}
-use Rattle.steps.proofs.Laws.{left-does}
 
 -- the value of a pointer in the storage k
 unfoldable pub pointer-of : ℕ → Value
@@ -97,10 +97,6 @@ function-meets {s = s} T R id f h n stack a e p = pointer-meets {s = s} id h n s
 
 -- ---------------------------------------------------------------- narrowing
 
-prepend-none : {A : Type 0} (o : Outcome A) → prepend nothing o ≡ o
-prepend-none (refused n l) = refl
-prepend-none (done a c p) = refl
-
 module _ {code store code′ store′ : List ℕ} {s : State} {c2 : Counters} (T : Tables) (R : TypesRight T) (k o : ℕ) (id : StorageId) (h : hir.At) (n n′ stack : List ℕ)
     (d : Does 1 (texts code store) (s .counters) (filled T R (λ x y. address-of x y k o)) (pointer-of (id .0)) (texts code′ store′) c2) where
   narrowing : (b : Bool) → is-one ((storageAt T k) .owner) ≡ b → n′ ≡ marked n (narrowed-by b k)
@@ -150,7 +146,7 @@ module _ (rows nodes lists : List ℕ) (c : Counts) (k o : ℕ) (h : hir.At) (m 
 
   pub static-found : {p : Placed} → r ≡ PlacedAt.Found p → lower-static-address (tables-of rows nodes lists c) k o h m ≡ materialize-location-address (tables-of rows nodes lists c) (p .storage) (is-one (p .bit)) o h m
   unfolding lower-static-address or-refuse _>>=_
-  static-found q = rw (nth-static rows nodes lists c k, e, q) (prepend-none _)
+  static-found q = rw (nth-static rows nodes lists c k, e, q) (prepend-nothing _)
 
 module _ (T : Tables) (lists : List ℕ) (d p : ℕ) (h : hir.At) (c : monad.Counters) {r : Based} (a : Bases T lists (base-at T d p) r) where
   outcome-based : {x : Based} → r ≡ x → resolve-place-base T (placeAt d T p) h c ≡ outcome-of (based-answer lists x) h c
@@ -162,7 +158,7 @@ module _ (T : Tables) (lists : List ℕ) (d p : ℕ) (h : hir.At) (c : monad.Cou
 
   pub based-found : {b : Base} → r ≡ Based.At b → lower-address-of T (placeAt d T p) h c ≡ materialize-location-address T (b .storage .0) (b .bit) (b .offset) h c
   unfolding lower-address-of _>>=_
-  based-found e = rw (outcome-based e) (prepend-none _)
+  based-found e = rw (outcome-based e) (prepend-nothing _)
 
 -- an equal outcome
 pub meets-as : {b b1 : Bufs} {s : State} {o p : Outcome Value} {x : Lowered} → o ≡ p → MeetsValue b s p b1 x → MeetsValue b s o b1 x

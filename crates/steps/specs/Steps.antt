@@ -20,7 +20,6 @@ use Rattle.emission.specs.Does.{Does, Refuses}
 use Rattle.values.specs.declared.State.{State}
 use Rattle.values.specs.declared.Value.{Value as Val}
 use Rattle.values.specs.declared.Repr.{Repr as Rep}
-use Rattle.values.specs.declared.Lowered.{Lowered}
 use Rattle.values.specs.Heads.{head-of, flat-of}
 use Rattle.steps.specs.declared.Operand.{Operand}
 use Rattle.steps.specs.declared.Flag.{Flag}

@@ -2,7 +2,7 @@
 use mathlib.Core.Path.{_≡_, refl, sym, ap, subst, _∙_}
 use mathlib.Core.Bool.{Bool, true, false}
 use mathlib.Core.List.{List, [], _∷_, _++_}
-use mathlib.Core.Option.{Option, none, some}
+use mathlib.Core.Option.{none, some}
 use Prim.Native.Nat.{ℕ, zero, suc, _+_, _-_, _*_, _≤_, _<_}
 use native.Mathlib.Omega.{arith}
 use lib.ListN.{length, getD, take, List·getD-eq-default}
@@ -20,11 +20,6 @@ use Rattle.spec.specs.Ticket.{
   tPointer,
   tArray,
   tOpaque,
-  TypeLine,
-  StorageLine,
-  PlacedLine,
-  PlaceLine,
-  NodeLine,
   Tables,
   noType,
   noStorage,
@@ -52,6 +47,7 @@ use Rattle.tables.specs.declared.PlacedAt.{PlacedAt}
 use Rattle.tables.specs.Tables.{
   pick,
   tab,
+  row-of,
   cell,
   run,
   numbers-at,
@@ -224,7 +220,7 @@ module _ (lists : List ℕ) where
 -- ---------------------------------------------------------------- cells
 
 module _ (ws : List ℕ) (base count k j d : ℕ) where
-  pub cell-in : k < count → cell ws base count k j d ≡ getD ws ((base + k) * 6 + j) 0
+  pub cell-in : k < count → cell ws base count k j d ≡ getD ws (row-of base k * 6 + j) 0
   unfolding cell
   cell-in h = rw (lt-ltb k count h)
 

@@ -3,6 +3,7 @@ use mathlib.Core.Path.{_≡_, refl}
 use mathlib.Core.List.{List, [], _∷_, _++_}
 use Prim.Native.Nat.{ℕ, zero, suc}
 use Prim.Native.String.{String}
+use lib.ListN.{take, drop}
 use Rattle.spec.specs.Text.{text}
 use Rattle.spec.specs.Read.{read-ticket, accepted}
 use Rattle.spec.specs.Answer.{computing}
@@ -109,8 +110,15 @@ padded zero xs = xs
 padded (suc n) [] = 0 ∷ padded n []
 padded (suc n) (x ∷ xs) = x ∷ padded n xs
 
+-- n rows of each kind in turn, six words a row
+abbrev turns : ℕ → List ℕ → List ℕ → List ℕ → List ℕ → List ℕ → List ℕ → List ℕ
+turns zero t s v g p x = []
+turns (suc n) t s v g p x =
+    padded 6 (take 6 t) ++ padded 6 (take 6 s) ++ padded 6 (take 6 v) ++ padded 6 (take 6 g) ++ padded 6 (take 6 p) ++ padded 6 (take 6 x) ++
+    turns n (drop 6 t) (drop 6 s) (drop 6 v) (drop 6 g) (drop 6 p) (drop 6 x)
+
 abbrev rows : List ℕ
-rows = padded 1536 types ++ padded 1536 storages ++ padded 384 variables ++ padded 384 statics ++ places
+rows = turns 26 types storages variables statics places nodes
 
 abbrev lists : List ℕ
 lists =
@@ -139,6 +147,6 @@ counts =
       weights = 38;
     }
 
-pub read-right : read-ticket (text ticket) ≡ accepted (tables-of rows nodes lists counts)
+pub read-right : read-ticket (text ticket) ≡ accepted (tables-of rows (drop 30 rows) lists counts)
 unfolding computing tab cell run numbers-at type-word-by type-line storage-line placed-list place-word-by place-line node-word-by node-line tables-of
 read-right = refl

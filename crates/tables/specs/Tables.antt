@@ -1,8 +1,8 @@
 -- The tables that the words of three slices stand for.
 --
--- `rows` has six words a row, each kind of line from a row of its own on: types from 0, storages from 256, variables from 512,
--- statics from 576, places from 640, as many as the limits allow. `nodes` has the nodes' rows: they stand behind the places',
--- and are lent as a slice of their own.
+-- `rows` has six words a row. The kinds take turns: every sixth row is a type's, from row 0 on, every sixth a storage's, from row 1 on,
+-- and so variables from 2, statics from 3, places from 4 and nodes from 5. Thus few lines take few words. `nodes` is `rows` from word 30
+-- on, lent as a slice of its own, so that the nodes' rows are those from row 0 on in it.
 --
 --   every row   0 the word's number    1 where its numbers start in `lists`    2 how many they are
 --   types       3 size                 4 weight                                5 depth
@@ -15,7 +15,6 @@ use mathlib.Core.List.{List, [], _∷_}
 use mathlib.Core.Option.{Option, none, some}
 use lib.ListN.{length, getD}
 use lib.Dec.{ltb}
-use Rattle.spec.specs.Limits.{type-lines, storage-lines, variable-lines, static-lines}
 use Rattle.spec.specs.Forms.{rule, type-rules, place-rules, node-rules}
 use Rattle.spec.specs.Read.{behind-type}
 use Rattle.spec.specs.Hir.{At, Expr, Place}
@@ -85,31 +84,35 @@ unfoldable pub tab : {A : Type 0} → (ℕ → A) → ℕ → ℕ → List A
 tab f i zero = []
 tab f i (suc n) = f i ∷ tab f (suc i) n
 
--- word j of row k of the `count` rows from `base` on; d past the last
+-- row k of the kind whose rows are every sixth from `base` on
+abbrev pub row-of : ℕ → ℕ → ℕ
+row-of base k = base + k * 6
+
+-- word j of row k of the `count` rows of a kind; d past the last
 unfoldable pub cell : List ℕ → ℕ → ℕ → ℕ → ℕ → ℕ → ℕ
-cell ws base count k j d = pick (ltb k count) (getD ws ((base + k) * 6 + j) 0) d
+cell ws base count k j d = pick (ltb k count) (getD ws (row-of base k * 6 + j) 0) d
 
 -- n numbers of the lists
 unfoldable pub run : List ℕ → ℕ → ℕ → List ℕ
 run lists start n = tab (λ i. getD lists i 0) start n
 
--- the numbers of row k of the `count` rows from `base` on; none past the last
+-- the numbers of row k of the `count` rows of a kind; none past the last
 unfoldable pub numbers-at : List ℕ → List ℕ → ℕ → ℕ → ℕ → List ℕ
 numbers-at ws lists base count k = run lists (cell ws base count k 1 0) (cell ws base count k 2 0)
 
--- ---------------------------------------------------------------- where each kind of line begins
+-- ---------------------------------------------------------------- the row from which on each kind has every sixth
 
 abbrev pub storages-from : ℕ
-storages-from = type-lines
+storages-from = 1
 
 abbrev pub variables-from : ℕ
-variables-from = storages-from + storage-lines
+variables-from = 2
 
 abbrev pub statics-from : ℕ
-statics-from = variables-from + variable-lines
+statics-from = 3
 
 abbrev pub places-from : ℕ
-places-from = statics-from + static-lines
+places-from = 4
 
 -- ---------------------------------------------------------------- types
 

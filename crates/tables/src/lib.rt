@@ -105,13 +105,13 @@ pub fn list_at(lists: &[u64], start: u64, i: u64) -> u64
     lists[at + step]
 }
 
-// Word j of row k of the `count` rows from `base` on; `other` past the last.
+// Word j of row k of the `count` rows of a kind, whose rows are every sixth from `base` on; `other` past the last.
 pub fn cell(s: &[u64], base: u64, count: u64, k: u64, j: u64, other: u64) -> u64
     requires { ⌜ (j < 6) × (base + count ≤ 1099511627776) ⌝ }
     ensures { λ r. ⌜ r ≡ cell (now (s .entry)) base count k j other ⌝ }
 {
     if k < count {
-        let at = (base + k) * 6 + j;
+        let at = (base + k * 6) * 6 + j;
         word(s, at as usize)
     } else {
         other
@@ -194,7 +194,7 @@ pub fn storage_owner(rows: &[u64], lists: &[u64], counts: Counts, k: u64) -> u64
     requires { ⌜ Sized counts ⌝ }
     ensures { λ r. ⌜ r ≡ owner-at (now (rows .entry)) (now (lists .entry)) counts k ⌝ }
 {
-    number(rows, lists, 256, counts.storages, k, 2)
+    number(rows, lists, 1, counts.storages, k, 2)
 }
 
 // The variable or static of n numbers of the lists.
@@ -230,14 +230,14 @@ pub fn variable_at(rows: &[u64], lists: &[u64], counts: Counts, k: u64) -> Place
     requires { ⌜ Sized counts ⌝ }
     ensures { λ r. ⌜ nth (variables-of (now (rows .entry)) (now (lists .entry)) counts) k ≡ placed-option r ⌝ }
 {
-    placed_row(rows, lists, 512, counts.variables, k)
+    placed_row(rows, lists, 2, counts.variables, k)
 }
 
 pub fn static_at(rows: &[u64], lists: &[u64], counts: Counts, k: u64) -> PlacedAt
     requires { ⌜ Sized counts ⌝ }
     ensures { λ r. ⌜ nth (statics-of (now (rows .entry)) (now (lists .entry)) counts) k ≡ placed-option r ⌝ }
 {
-    placed_row(rows, lists, 576, counts.statics, k)
+    placed_row(rows, lists, 3, counts.statics, k)
 }
 
 // The place that a word's number and two numbers stand for.
@@ -258,9 +258,9 @@ pub fn place_at(rows: &[u64], lists: &[u64], counts: Counts, k: u64) -> PlaceKin
     requires { ⌜ Sized counts ⌝ }
     ensures { λ r. ⌜ r ≡ place-kind-at (now (rows .entry)) (now (lists .entry)) counts k ⌝ }
 {
-    let w = cell(rows, 640, counts.places, k, 0, 0);
-    let a = number(rows, lists, 640, counts.places, k, 0);
-    let b = number(rows, lists, 640, counts.places, k, 1);
+    let w = cell(rows, 4, counts.places, k, 0, 0);
+    let a = number(rows, lists, 4, counts.places, k, 0);
+    let b = number(rows, lists, 4, counts.places, k, 1);
     place_kind(w, a, b)
 }
 

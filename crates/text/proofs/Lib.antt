@@ -1,4 +1,5 @@
 pub mod Printing
+pub mod Copying
 pub mod Steps
 pub mod Positions
 pub mod Words

@@ -1,6 +1,8 @@
 // Texts as bytes: decimal numbers, fields and lines.
 ghost use mathlib.Core.Path.{_≡_};
 ghost use mathlib.Core.List.{[], _∷_};
+ghost use Prim.Native.Nat.{_≤_, _<_};
+ghost use lib.ListN.{length};
 ghost use Rattle.spec.specs.Text.{digits};
 ghost use Rattle.text.specs.Put.{Put};
 ghost use Rattle.text.specs.Field.{ends-field, number-at, byte-at, word-at, next-number-at};
@@ -20,20 +22,56 @@ pub fn put(buf: &mut [u8], at: usize, b: u8) -> usize
     }
 }
 
-// A number in decimal digits.
+// A number of two digits.
+fn print_two(buf: &mut [u8], at: usize, n: u64) -> usize
+    requires { ⌜ (10 ≤ n) × (n < 100) ⌝ }
+    ensures { λ r. ⌜ Put (now (buf .entry)) at (digits n) (now (buf .exit)) r ⌝ }
+{
+    let p = put(buf, at, (48 + n / 10) as u8);
+    put(buf, p, (48 + n % 10) as u8)
+}
+
+// A number of three digits.
+fn print_three(buf: &mut [u8], at: usize, n: u64) -> usize
+    requires { ⌜ (100 ≤ n) × (n < 1000) ⌝ }
+    ensures { λ r. ⌜ Put (now (buf .entry)) at (digits n) (now (buf .exit)) r ⌝ }
+{
+    let p = put(buf, at, (48 + n / 100) as u8);
+    let q = put(buf, p, (48 + n / 10 % 10) as u8);
+    put(buf, q, (48 + n % 10) as u8)
+}
+
+// A number in decimal digits. Most are short: up to three digits need no recursion.
 pub fn print_number(buf: &mut [u8], at: usize, n: u64) -> usize
     ensures { λ r. ⌜ Put (now (buf .entry)) at (digits n) (now (buf .exit)) r ⌝ }
 {
     if n < 10 {
-        put(buf, at, (48 + n) as u8)
-    } else {
-        let next = print_number(buf, at, n / 10);
-        put(buf, next, (48 + n % 10) as u8)
+        return put(buf, at, (48 + n) as u8);
+    }
+    if n < 100 {
+        return print_two(buf, at, n);
+    }
+    if n < 1000 {
+        return print_three(buf, at, n);
+    }
+    let next = print_number(buf, at, n / 10);
+    put(buf, next, (48 + n % 10) as u8)
+}
+
+// Over slices of one length, so that the copy is a quick one.
+pub fn copy_in(to: &mut [u8], from: &[u8])
+    requires { ⌜ length (now to) ≡ length (now from) ⌝ }
+    ensures { λ _. ⌜ now (to .exit) ≡ now (from .entry) ⌝ }
+{
+    let mut i: usize = 0;
+    while i < from.len() {
+        to[i] = from[i];
+        i += 1;
     }
 }
 
-// The bytes of w.
-pub fn print_bytes(buf: &mut [u8], at: usize, w: &[u8]) -> usize
+// The bytes of w one by one, where there is no room for all of them.
+fn print_each(buf: &mut [u8], at: usize, w: &[u8]) -> usize
     ensures { λ r. ⌜ Put (now (buf .entry)) at (now (w .entry)) (now (buf .exit)) r ⌝ }
 {
     let mut p = at;
@@ -43,6 +81,18 @@ pub fn print_bytes(buf: &mut [u8], at: usize, w: &[u8]) -> usize
         i += 1;
     }
     p
+}
+
+// The bytes of w, as one block where there is room for all of them.
+pub fn print_bytes(buf: &mut [u8], at: usize, w: &[u8]) -> usize
+    ensures { λ r. ⌜ Put (now (buf .entry)) at (now (w .entry)) (now (buf .exit)) r ⌝ }
+{
+    if at < buf.len() && w.len() <= buf.len() - at {
+        let next = at + w.len();
+        copy_in(&mut buf[at..next], w);
+        return next;
+    }
+    print_each(buf, at, w)
 }
 
 // A position of a text.

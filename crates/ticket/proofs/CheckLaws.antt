@@ -1,38 +1,31 @@
 -- The tests of a line, from number to number.
 -- Assumes nothing.
-use mathlib.Core.Path.{_≡_, refl, sym, ap, subst, _∙_}
-use mathlib.Core.Bool.{Bool, true, false, not, _&&_, _||_}
-use mathlib.Core.List.{List, [], _∷_, _++_}
+use mathlib.Core.Path.{_≡_, refl, sym, ap, _∙_}
+use mathlib.Core.Bool.{Bool, true, false, not, _&&_}
+use mathlib.Core.List.{List, [], _∷_}
 use mathlib.Core.Option.{Option, none, some}
-use Prim.Native.Nat.{ℕ, zero, suc, _+_, _-_, _*_, _≤_, _<_, max}
+use Prim.Native.Nat.{ℕ, zero, suc, _+_, _-_, _≤_, _<_, max}
 use native.Mathlib.Omega.{arith}
-use native.Mathlib.Nat.{zero-add, add-zero}
-use lib.Dec.{eqb, leb, ltb}
-use lib.ListN.{length, getD, set}
+use native.Mathlib.Nat.{add-zero}
+use lib.Dec.{eqb, leb}
+use lib.ListN.{getD}
 use borrow.Author.Tests.{le-leb, lt-leb, eq-eqb, ne-eqb}
-use Rattle.tables.specs.Tables.{tab, pick, run, places-from}
-use Rattle.fields.proofs.Tabs.{tab-here, tab-done, tab-same}
-use Rattle.spec.specs.Ticket.{arg}
-use Rattle.spec.specs.Forms.{Field, between, float-width, type-part, type, storage, place, node, Arg, values}
+use Rattle.tables.specs.Tables.{tab, pick, row-of, run, places-from}
+use Rattle.fields.proofs.Tabs.{tab-here, tab-done}
+use Rattle.spec.specs.Forms.{Field, place, node, Arg, values}
 use Rattle.spec.specs.Read.{
-  Used,
   all,
   in-order,
-  in-range-of,
-  in-range,
   length-fits,
-  bit-fits,
   used-of,
   mark-of,
-  once,
-  mark,
   Test,
   test,
   first-failed,
 }
-use Rattle.ticket.specs.Classes.{classAt, argAt, formArg, argsOf}
-use Rattle.ticket.specs.Rows.{Row, rowAt, section, marked, usedOf, nodes-from, MarkAt, Few}
-use Rattle.ticket.specs.Steps.{earlierIn, earlierArg, depthIn, deepestIn, Alike, Marking, MarkedAll}
+use Rattle.ticket.specs.Classes.{argAt, formArg, argsOf}
+use Rattle.ticket.specs.Rows.{section, marked, usedOf, nodes-from, MarkAt, Few}
+use Rattle.ticket.specs.Steps.{depthIn, deepestIn, Alike, Marking}
 use Rattle.ticket.specs.declared.Form.{Form}
 use Rattle.tables.specs.declared.Counts.{Counts}
 use Rattle.ticket.proofs.RowLaws.{section-same}
@@ -66,19 +59,28 @@ length-other k l e = chosen (eqb k 2) false (leb 1 l) (eqb l 0) (ne-eqb k 2 e)
 
 -- ---------------------------------------------------------------- a test of all numbers
 
-module _ (p : Arg → Bool) (f : ℕ → Arg) (o : Bool) (i n : ℕ) (q : o ≡ all p (tab f i (n - i))) where
-  pub all-end : n ≤ i → true ≡ o
+and-swap : (t a b : Bool) → ((t && a) && b) ≡ (a && (t && b))
+and-swap true a b = refl
+and-swap false true b = refl
+and-swap false false b = refl
+
+and-true : (a : Bool) → a ≡ (a && true)
+and-true true = refl
+and-true false = refl
+
+module _ (p : Arg → Bool) (f : ℕ → Arg) (o b : Bool) (i n : ℕ) (q : o ≡ (all p (tab f i (n - i)) && b)) where
+  pub all-end : n ≤ i → b ≡ o
   all-end h = sym (q ∙ rw (tab-done f i n h))
 
-  pub all-not : i < n → p (f i) ≡ false → false ≡ o
-  all-not h e = sym (q ∙ rw (tab-here f i n h, e))
-
-  pub all-next : i < n → p (f i) ≡ true → o ≡ all p (tab f (i + 1) (n - (i + 1)))
-  all-next h e = q ∙ rw (tab-here f i n h, e)
+  pub all-next : (t : Bool) → i < n → t ≡ (p (f i) && b) → o ≡ (all p (tab f (i + 1) (n - (i + 1))) && t)
+  all-next t h e = q ∙ rw (tab-here f i n h, e) (and-swap (p (f i)) (all p (tab f (i + 1) (n - (i + 1)))) b)
 
 pub args-start : (f : Form) (ls : List ℕ) (used : ℕ) → argsOf f ls used ≡ tab (formArg f ls used) 0 (f .count - 0)
 unfolding argsOf
 args-start f ls used = let e : f .count - 0 ≡ f .count = omega arith in rw e
+
+pub all-start : (p : Arg → Bool) (f : Form) (ls : List ℕ) (used : ℕ) → all p (argsOf f ls used) ≡ (all p (tab (formArg f ls used) 0 (f .count - 0)) && true)
+all-start p f ls used = rw (← args-start f ls used) (and-true (all p (argsOf f ls used)))
 
 module _ (f : Form) (ls : List ℕ) (used : ℕ) where
   values-tab : (j n : ℕ) → values (tab (formArg f ls used) j n) ≡ tab (λ i. getD ls (used + i) 0) j n
@@ -99,32 +101,22 @@ module _ (f : Form) (ls : List ℕ) (used : ℕ) where
 -- ---------------------------------------------------------------- depth
 
 module _ (ws : List ℕ) (c : Counts) (f : ℕ → Arg) (o m i n : ℕ) (q : o ≡ max m (deepestIn ws c (tab f i (n - i)))) where
-  pub deep-end : n ≤ i → m ≡ o
-  unfolding deepestIn
-  deep-end h = sym (q ∙ rw (tab-done f i n h) (omega arith))
-
   pub deep-next : (d : ℕ) → i < n → d ≡ max m (depthIn ws c ((f i) .class) ((f i) .value)) → o ≡ max d (deepestIn ws c (tab f (i + 1) (n - (i + 1))))
   unfolding deepestIn
   deep-next d h e = q ∙ rw (tab-here f i n h, e) (omega arith)
 
-pub larger : (m d x v : ℕ) → d ≡ x → m < d → d ≡ max m x
-larger m d x v e h = omega arith
-
-pub no-larger : (m d x v : ℕ) → d ≡ x → d ≤ m → m ≡ max m x
-no-larger m d x v e h = omega arith
-
 -- ---------------------------------------------------------------- marks
 
 pub alike-same : (u : List ℕ) → Alike u u
-alike-same u = record { cells = λ q j a b. refl; rows = λ q h. refl }
+alike-same u = record { cells = λ q j a b. refl; rows = λ base k h. refl }
 
 pub alike-then : (u t v : List ℕ) → Alike u t → Alike t v → Alike u v
-alike-then u t v a b = record { cells = λ q j n h. b .cells q j n h ∙ a .cells q j n h; rows = λ q h. b .rows q h ∙ a .rows q h }
+alike-then u t v a b = record { cells = λ q j n h. b .cells q j n h ∙ a .cells q j n h; rows = λ base k h. b .rows base k h ∙ a .rows base k h }
 
 -- rows of another section
-apart : (u t : List ℕ) (base n k base′ n′ : ℕ) (r : Bool) → MarkAt u t base n k r → ((i : ℕ) → i < n′ → k < n → base′ + i ≡ base + k → ⊥)
+apart : (u t : List ℕ) (base n k base′ n′ : ℕ) (r : Bool) → MarkAt u t base n k r → ((i : ℕ) → i < n′ → k < n → row-of base′ i ≡ row-of base k → ⊥)
     → section marked t base′ n′ ≡ section marked u base′ n′
-apart u t base n k base′ n′ r m h = section-same marked u t base′ n′ (λ i l. ap marked (m .others (base′ + i) (λ g e. h i l g e)))
+apart u t base n k base′ n′ r m h = section-same marked u t base′ n′ (λ i l. ap marked (m .others (row-of base′ i) (λ g e. h i l g e)))
 
 module _ (u t : List ℕ) (c : Counts) (few : Few c) (x : ℕ) (r : Bool) where
   pub mark-place : MarkAt u t places-from (c .places) x r → Marking u t c place x r
@@ -132,8 +124,8 @@ module _ (u t : List ℕ) (c : Counts) (few : Few c) (x : ℕ) (r : Bool) where
   mark-place m =
       record {
         answer = m .answer;
-        marks = rw (m .marks, apart u t places-from (c .places) x nodes-from (c .nodes) r m (λ i l g e. omega (arith, few .places)));
-        alike = record { cells = m .cells; rows = λ q h. m .others q (λ g e. omega arith) };
+        marks = rw (m .marks, apart u t places-from (c .places) x nodes-from (c .nodes) r m (λ i l g e. omega arith));
+        alike = record { cells = m .cells; rows = λ base k h. m .others (row-of base k) (λ g e. omega arith) };
       }
 
   pub mark-node : MarkAt u t nodes-from (c .nodes) x r → Marking u t c node x r
@@ -141,45 +133,13 @@ module _ (u t : List ℕ) (c : Counts) (few : Few c) (x : ℕ) (r : Bool) where
   mark-node m =
       record {
         answer = m .answer;
-        marks = rw (m .marks, apart u t nodes-from (c .nodes) x places-from (c .places) r m (λ i l g e. omega (arith, few .places)));
-        alike = record { cells = m .cells; rows = λ q h. m .others q (λ g e. omega arith) };
+        marks = rw (m .marks, apart u t nodes-from (c .nodes) x places-from (c .places) r m (λ i l g e. omega arith));
+        alike = record { cells = m .cells; rows = λ base k h. m .others (row-of base k) (λ g e. omega arith) };
       }
 
 -- a number that refers to no place and no node
 pub no-mark : (u : List ℕ) (c : Counts) (f : Field) (x : ℕ) → used-of (usedOf u c) f x ≡ false → mark-of (usedOf u c) f x ≡ usedOf u c → Marking u u c f x true
 no-mark u c f x e g = record { answer = sym e; marks = sym g; alike = alike-same u }
-
-module _ (u : List ℕ) (c : Counts) (f : ℕ → Arg) (i n : ℕ) (b : Bool) (v : Used) (q : b ≡ once (tab f i (n - i)) v) (a : usedOf u c ≡ v) (t : List ℕ) (r : Bool)
-    (m : Marking u t c ((f i) .class) ((f i) .value) r) (h : i < n) where
-  pub once-not : r ≡ false → false ≡ b
-  unfolding once
-  once-not e = sym (q ∙ rw (tab-here f i n h, ← a, ← m .answer, e))
-
-  pub once-next : r ≡ true → b ≡ once (tab f (i + 1) (n - (i + 1))) (usedOf t c)
-  unfolding once
-  once-next e = q ∙ rw (tab-here f i n h, ← a, ← m .answer, e, m .marks)
-
-  pub mark-next : r ≡ true → mark (tab f i (n - i)) v ≡ mark (tab f (i + 1) (n - (i + 1))) (usedOf t c)
-  unfolding mark
-  mark-next e = rw (tab-here f i n h, ← a, m .marks)
-
-pub deep-start : (ws : List ℕ) (c : Counts) (f : Form) (ls : List ℕ) (used : ℕ)
-    → deepestIn ws c (argsOf f ls used) ≡ max 0 (deepestIn ws c (tab (formArg f ls used) 0 (f .count - 0)))
-deep-start ws c f ls used = rw (← args-start f ls used) (omega arith)
-
-pub once-start : (f : Form) (ls : List ℕ) (used : ℕ) (v : Used) → once (argsOf f ls used) v ≡ once (tab (formArg f ls used) 0 (f .count - 0)) v
-once-start f ls used v = rw (args-start f ls used)
-
-pub mark-start : (f : Form) (ls : List ℕ) (used : ℕ) (v : Used) → mark (argsOf f ls used) v ≡ mark (tab (formArg f ls used) 0 (f .count - 0)) v
-mark-start f ls used v = rw (args-start f ls used)
-
-pub once-end : (f : ℕ → Arg) (o : Bool) (i n : ℕ) (v : Used) → o ≡ once (tab f i (n - i)) v → n ≤ i → true ≡ o
-unfolding once
-once-end f o i n v q h = sym (q ∙ rw (tab-done f i n h))
-
-pub mark-end : (f : ℕ → Arg) (w v : Used) (i n : ℕ) → w ≡ mark (tab f i (n - i)) v → n ≤ i → v ≡ w
-unfolding mark
-mark-end f w v i n q h = sym (q ∙ rw (tab-done f i n h))
 
 -- ---------------------------------------------------------------- the first test that fails
 

@@ -2,14 +2,13 @@
 -- Assumes nothing.
 use mathlib.Core.Path.{_≡_, refl, sym, ap, _∙_}
 use mathlib.Core.Bool.{Bool, true, false}
-use mathlib.Core.List.{List, [], _∷_, _++_, map}
+use mathlib.Core.List.{List, [], _∷_, map}
 use mathlib.Core.Option.{Option, none, some}
-use Prim.Native.Nat.{ℕ, zero, suc, _+_, _-_, _*_, _≤_, _<_}
-use Prim.Native.String.{String}
+use Prim.Native.Nat.{ℕ, zero, suc, _+_, _-_, _≤_}
 use native.Mathlib.Omega.{arith}
 use lib.Dec.{eqb, leb, eqb·suc-suc, leb·suc-suc, eqb·suc-zero, eqb·zero-suc, leb·zero, leb·suc-zero}
 use lib.ListN.{length, getD, List·getD-map}
-use borrow.Author.Tests.{le-leb, lt-leb, leb-true}
+use borrow.Author.Tests.{le-leb, lt-leb, leb-true, eqb-true}
 use Rattle.spec.specs.Text.{bytes, same, split, number, comma}
 use Rattle.tables.specs.Tables.{tab, pick, type-word-by, place-word-by, node-word-by}
 use Rattle.fields.specs.Fields.{position, numbers-of, cons-number, onto, Taken, taken, first-word, wordOf, WordAt, first-number, decimalOf, NumberAt, fields-from}
@@ -19,7 +18,7 @@ use Rattle.fields.specs.declared.Keyword.the-variants.{Word, Unknown}
 use Rattle.fields.specs.declared.Decimal.{Decimal}
 use Rattle.fields.specs.declared.Decimal.the-variants.{Value, Malformed}
 use Rattle.fields.proofs.Marks.{fields-start}
-use Rattle.spec.specs.Ticket.{TypeWord, tUnit, PlaceWord, pVariable, NodeWord, nNull}
+use Rattle.spec.specs.Ticket.{tUnit, pVariable, NodeWord, nNull}
 use Rattle.spec.specs.Forms.{
   Field,
   type,
@@ -31,11 +30,6 @@ use Rattle.spec.specs.Forms.{
   kind-rules,
   find,
   Arg,
-  Head,
-  f-line,
-  s-line,
-  v-line,
-  g-line,
   t-line,
   p-line,
   n-line,
@@ -57,10 +51,6 @@ use Rattle.spec.specs.Forms.{
   kS,
   kV,
   kG,
-  function-fields,
-  storage-fields,
-  placed-fields,
-  Kind,
 }
 use Rattle.ticket.specs.Classes.{
   typeRule,
@@ -198,6 +188,37 @@ count-column : {A : Type 0} (rs : List (Rule A)) (d : Rule A) (cs : List ℕ) (c
     → (w : ℕ) → getD cs w c ≡ g (getD rs w d)
 count-column rs d cs c g e e₀ w = rw (e, e₀) (List·getD-map g rs w d)
 
+-- what a `match` says of its last arm, with an arm before it for each number from j on at which a letter other than `l` stands
+abbrev pub Also : Bool → Type 0 → Type 0 → Type 0
+Also true A B = A
+Also false A B = A × B
+
+abbrev pub Other : ℕ → ℕ → List ℕ → Type 0 → Type 0
+Other w j [] A = A
+Other w j (c ∷ cs) A = Other w (suc j) cs (Also (eqb c 108) A (w ≡ j → ⊥))
+
+also-first : (t : Bool) (A B : Type 0) → Also t A B → A
+also-first true A B h = h
+also-first false A B h = h .0
+
+other-before : (w j : ℕ) (cs : List ℕ) (A : Type 0) → Other w j cs A → A
+other-before w j [] A h = h
+other-before w j (c ∷ cs) A h =
+    also-first (eqb c 108) A (w ≡ j → ⊥) (other-before w (suc j) cs (Also (eqb c 108) A (w ≡ j → ⊥)) h)
+
+other-at : (w j i : ℕ) (cs : List ℕ) (A : Type 0) → w ≡ j + i → Other w j cs A → 108 ≡ getD cs i 108
+other-at w j i [] A e h = refl
+other-at w j zero (c ∷ cs) A e h = by (eqb c 108) refl (other-before w (suc j) cs (Also (eqb c 108) A (w ≡ j → ⊥)) h)
+  where
+    by : (t : Bool) → eqb c 108 ≡ t → Also t A (w ≡ j → ⊥) → 108 ≡ c
+    by true q g = sym (eqb-true c 108 q)
+    by false q g = absurd (g .1 (omega arith))
+other-at w j (suc i) (c ∷ cs) A e h = other-at w (suc j) i cs (Also (eqb c 108) A (w ≡ j → ⊥)) (omega arith) h
+
+-- the letter of a `match`'s last arm
+pub other-letter : (w : ℕ) (cs : List ℕ) → Other w 0 cs (Unit {0}) → lettered 108 ≡ lettered (getD cs w 108)
+other-letter w cs h = ap lettered (other-at w 0 w cs (Unit {0}) (omega arith) h)
+
 -- behind a rule's fields all are of one class
 class-past : (fs : List Field) (r : Option Field) (m i : ℕ) → length fs ≤ m → m ≤ i → class-in fs r i ≡ class-in fs r m
 unfolding class-in
@@ -210,33 +231,59 @@ class-past (f ∷ fs) r (suc m) (suc i) h l = class-past fs r m i (omega arith) 
 class-of-rule : {A : Type 0} → ℕ → Rule A → Field
 class-of-rule i r = class-in (r .fields) (r .rest) i
 
-pub type-letter-first : (w i : ℕ) → i ≡ 0 → lettered (getD (bytes "llwfltttl") w 108) ≡ classAt Types w i
-unfolding classAt typeRule class-of-rule lettered class-in
-type-letter-first w i h = rw h (column type-rules (rule "unit" tUnit []) (bytes "llwfltttl") 108 (class-of-rule 0) refl refl w)
+-- ---------------------------------------------------------------- the classes by their letters
 
 types-short : (w : ℕ) → length ((typeRule w) .fields) ≤ 2
 unfolding typeRule both short
 types-short w = all-short type-rules (rule "unit" tUnit []) 2 refl refl w
 
-pub type-letter-rest : (w i : ℕ) → (i ≡ 0 → ⊥) → lettered (getD (bytes "llllllttl") w 108) ≡ classAt Types w i
-unfolding classAt typeRule class-of-rule lettered class-in
-type-letter-rest w zero h = absurd (h refl)
-type-letter-rest w (suc zero) h = column type-rules (rule "unit" tUnit []) (bytes "llllllttl") 108 (class-of-rule 1) refl refl w
-type-letter-rest w (suc (suc i)) h =
-    column type-rules (rule "unit" tUnit []) (bytes "llllllttl") 108 (class-of-rule 2) refl refl w
-    ∙ sym (class-past ((typeRule w) .fields) ((typeRule w) .rest) 2 (suc (suc i)) (types-short w) (omega arith))
-
 places-short : (w : ℕ) → length ((placeRule w) .fields) ≤ 2
 unfolding placeRule both short
 places-short w = all-short place-rules (rule "variable" pVariable []) 2 refl refl w
 
-pub place-letter-first : (w i : ℕ) → i ≡ 0 → lettered (getD (bytes "aappp") w 108) ≡ classAt Places w i
-unfolding classAt placeRule class-of-rule lettered class-in
-place-letter-first w i h = rw h (column place-rules (rule "variable" pVariable []) (bytes "aappp") 108 (class-of-rule 0) refl refl w)
+nodes-short : (w : ℕ) → length ((nodeRule w) .fields) ≤ 3
+unfolding nodeRule both short
+nodes-short w = all-short node-rules (rule "null" nNull []) 3 refl refl w
 
-pub place-letter-second : (w i : ℕ) → i ≡ 1 → lettered (getD (bytes "llann") w 108) ≡ classAt Places w i
-unfolding classAt placeRule class-of-rule lettered class-in
-place-letter-second w i h = rw h (column place-rules (rule "variable" pVariable []) (bytes "llann") 108 (class-of-rule 1) refl refl w)
+-- no line has more than four fields of their own classes
+fields-short : (k : LineKind) (w : ℕ) → length (fieldsOf k w) ≤ 4
+fields-short Functions w = omega arith
+fields-short Types w = omega (arith, types-short w)
+fields-short Storages w = omega arith
+fields-short Variables w = omega arith
+fields-short Statics w = omega arith
+fields-short Places w = omega (arith, places-short w)
+fields-short Nodes w = omega (arith, nodes-short w)
+
+pub class-later : (k : LineKind) (w i : ℕ) → 4 ≤ i → classAt k w i ≡ classAt k w 4
+unfolding classAt
+class-later k w i h = class-past (fieldsOf k w) (restOf k w) 4 i (fields-short k w) h
+
+module _ (w : ℕ) where
+  pub type-letter-0 : lettered (getD (bytes "llwfltttl") w 108) ≡ classAt Types w 0
+  unfolding classAt typeRule class-of-rule lettered class-in
+  type-letter-0 = column type-rules (rule "unit" tUnit []) (bytes "llwfltttl") 108 (class-of-rule 0) refl refl w
+
+  pub type-letter-1 : lettered (getD (bytes "llllllttl") w 108) ≡ classAt Types w 1
+  unfolding classAt typeRule class-of-rule lettered class-in
+  type-letter-1 = column type-rules (rule "unit" tUnit []) (bytes "llllllttl") 108 (class-of-rule 1) refl refl w
+
+  pub types-later : (i : ℕ) → (i ≡ 0 → ⊥) → classAt Types w 1 ≡ classAt Types w i
+  unfolding classAt typeRule class-of-rule lettered class-in
+  types-later zero h = absurd (h refl)
+  types-later (suc zero) h = refl
+  types-later (suc (suc i)) h =
+      sym type-letter-1
+      ∙ column type-rules (rule "unit" tUnit []) (bytes "llllllttl") 108 (class-of-rule 2) refl refl w
+      ∙ sym (class-past ((typeRule w) .fields) ((typeRule w) .rest) 2 (suc (suc i)) (types-short w) (omega arith))
+
+  pub place-letter-0 : lettered (getD (bytes "aappp") w 108) ≡ classAt Places w 0
+  unfolding classAt placeRule class-of-rule lettered class-in
+  place-letter-0 = column place-rules (rule "variable" pVariable []) (bytes "aappp") 108 (class-of-rule 0) refl refl w
+
+  pub place-letter-1 : lettered (getD (bytes "llann") w 108) ≡ classAt Places w 1
+  unfolding classAt placeRule class-of-rule lettered class-in
+  place-letter-1 = column place-rules (rule "variable" pVariable []) (bytes "llann") 108 (class-of-rule 1) refl refl w
 
 no-letter : (w : ℕ) → getD (bytes "lllll") w 108 ≡ 108
 no-letter zero = refl
@@ -246,67 +293,70 @@ no-letter (suc (suc (suc zero))) = refl
 no-letter (suc (suc (suc (suc zero)))) = refl
 no-letter (suc (suc (suc (suc (suc w))))) = refl
 
-pub place-letter-rest : (w i : ℕ) → (i ≡ 0 → ⊥) → (i ≡ 1 → ⊥) → lettered 108 ≡ classAt Places w i
+pub places-later : (w i : ℕ) → (i ≡ 0 → ⊥) → (i ≡ 1 → ⊥) → lettered 108 ≡ classAt Places w i
 unfolding classAt placeRule class-of-rule lettered class-in
-place-letter-rest w i h g =
+places-later w i h g =
     ap lettered (sym (no-letter w))
     ∙ column place-rules (rule "variable" pVariable []) (bytes "lllll") 108 (class-of-rule 2) refl refl w
     ∙ sym (class-past ((placeRule w) .fields) ((placeRule w) .rest) 2 i (places-short w) (omega (arith, h, g)))
 
-nodes-short : (w : ℕ) → length ((nodeRule w) .fields) ≤ 3
-unfolding nodeRule both short
-nodes-short w = all-short node-rules (rule "null" nNull []) 3 refl refl w
+module _ (w : ℕ) where
+  pub node-letter-0 : lettered 121 ≡ classAt Nodes w 0
+  unfolding classAt lettered class-in
+  node-letter-0 = refl
 
-pub node-letter-type : (w i : ℕ) → i ≡ 0 → lettered 121 ≡ classAt Nodes w i
+  pub node-letter-1 : lettered (getD (bytes "bamalalpuinnocnpnnnn") w 108) ≡ classAt Nodes w 1
+  unfolding classAt nodeRule class-of-rule lettered class-in
+  node-letter-1 = column node-rules (rule "null" nNull []) (bytes "bamalalpuinnocnpnnnn") 108 (class-of-rule 0) refl refl w
+
+  pub node-letter-2 : lettered (getD (bytes "llllllllnnlnnnnlnnaa") w 108) ≡ classAt Nodes w 2
+  unfolding classAt nodeRule class-of-rule lettered class-in
+  node-letter-2 = column node-rules (rule "null" nNull []) (bytes "llllllllnnlnnnnlnnaa") 108 (class-of-rule 1) refl refl w
+
+  pub node-letter-3 : lettered (getD (bytes "lllllllllnllnlnllnln") w 108) ≡ classAt Nodes w 3
+  unfolding classAt nodeRule class-of-rule lettered class-in
+  node-letter-3 = column node-rules (rule "null" nNull []) (bytes "lllllllllnllnlnllnln") 108 (class-of-rule 2) refl refl w
+
+  pub node-letter-4 : lettered (getD (bytes "lllllllllllllllllnll") w 108) ≡ classAt Nodes w 4
+  unfolding classAt nodeRule class-of-rule lettered class-in
+  node-letter-4 = column node-rules (rule "null" nNull []) (bytes "lllllllllllllllllnll") 108 (class-of-rule 3) refl refl w
+
+  pub nodes-later : (i : ℕ) → (i ≡ 0 → ⊥) → (i ≡ 1 → ⊥) → (i ≡ 2 → ⊥) → (i ≡ 3 → ⊥) → classAt Nodes w 4 ≡ classAt Nodes w i
+  nodes-later zero h₀ h₁ h₂ h₃ = absurd (h₀ refl)
+  nodes-later (suc zero) h₀ h₁ h₂ h₃ = absurd (h₁ refl)
+  nodes-later (suc (suc zero)) h₀ h₁ h₂ h₃ = absurd (h₂ refl)
+  nodes-later (suc (suc (suc zero))) h₀ h₁ h₂ h₃ = absurd (h₃ refl)
+  nodes-later (suc (suc (suc (suc i)))) h₀ h₁ h₂ h₃ = sym (class-later Nodes w (suc (suc (suc (suc i)))) (omega arith))
+
+pub storage-letters : (i : ℕ) → lettered (getD (bytes "klbr") i 108) ≡ classAt Storages 0 i
 unfolding classAt lettered class-in
-node-letter-type w i h = rw h
+storage-letters zero = refl
+storage-letters (suc zero) = refl
+storage-letters (suc (suc zero)) = refl
+storage-letters (suc (suc (suc zero))) = refl
+storage-letters (suc (suc (suc (suc i)))) = refl
 
+pub placed-letters : (i : ℕ) → lettered (getD (bytes "slyb") i 108) ≡ classAt Variables 0 i
+unfolding classAt lettered class-in
+placed-letters zero = refl
+placed-letters (suc zero) = refl
+placed-letters (suc (suc zero)) = refl
+placed-letters (suc (suc (suc zero))) = refl
+placed-letters (suc (suc (suc (suc i)))) = refl
+
+-- these kinds have no words
 module _ (w i : ℕ) where
-  pub node-letter-1 : i ≡ 1 → lettered (getD (bytes "bamalalpuinnocnpnnnn") w 108) ≡ classAt Nodes w i
-  unfolding classAt nodeRule class-of-rule lettered class-in
-  node-letter-1 h = rw h (column node-rules (rule "null" nNull []) (bytes "bamalalpuinnocnpnnnn") 108 (class-of-rule 0) refl refl w)
+  pub storages-alike : classAt Storages 0 i ≡ classAt Storages w i
+  unfolding classAt
+  storages-alike = refl
 
-  pub node-letter-2 : i ≡ 2 → lettered (getD (bytes "llllllllnnlnnnnlnnaa") w 108) ≡ classAt Nodes w i
-  unfolding classAt nodeRule class-of-rule lettered class-in
-  node-letter-2 h = rw h (column node-rules (rule "null" nNull []) (bytes "llllllllnnlnnnnlnnaa") 108 (class-of-rule 1) refl refl w)
+  pub variables-alike : classAt Variables 0 i ≡ classAt Variables w i
+  unfolding classAt
+  variables-alike = refl
 
-  pub node-letter-3 : i ≡ 3 → lettered (getD (bytes "lllllllllnllnlnllnln") w 108) ≡ classAt Nodes w i
-  unfolding classAt nodeRule class-of-rule lettered class-in
-  node-letter-3 h = rw h (column node-rules (rule "null" nNull []) (bytes "lllllllllnllnlnllnln") 108 (class-of-rule 2) refl refl w)
-
-pub node-letter-rest : (w i : ℕ) → (i ≡ 0 → ⊥) → (i ≡ 1 → ⊥) → (i ≡ 2 → ⊥) → (i ≡ 3 → ⊥) → lettered (getD (bytes "lllllllllllllllllnll") w 108) ≡ classAt Nodes w i
-unfolding classAt nodeRule class-of-rule lettered class-in
-node-letter-rest w zero h₀ h₁ h₂ h₃ = absurd (h₀ refl)
-node-letter-rest w (suc zero) h₀ h₁ h₂ h₃ = absurd (h₁ refl)
-node-letter-rest w (suc (suc zero)) h₀ h₁ h₂ h₃ = absurd (h₂ refl)
-node-letter-rest w (suc (suc (suc zero))) h₀ h₁ h₂ h₃ = absurd (h₃ refl)
-node-letter-rest w (suc (suc (suc (suc i)))) h₀ h₁ h₂ h₃ =
-    column node-rules (rule "null" nNull []) (bytes "lllllllllllllllllnll") 108 (class-of-rule 3) refl refl w
-    ∙ sym (class-past (type ∷ (nodeRule w) .fields) ((nodeRule w) .rest) 4 (suc (suc (suc (suc i)))) (omega (arith, nodes-short w)) (omega arith))
-
-pub storage-letters : (w i : ℕ) → lettered (getD (bytes "klbr") i 108) ≡ classAt Storages w i
-unfolding classAt lettered class-in
-storage-letters w zero = refl
-storage-letters w (suc zero) = refl
-storage-letters w (suc (suc zero)) = refl
-storage-letters w (suc (suc (suc zero))) = refl
-storage-letters w (suc (suc (suc (suc i)))) = refl
-
-pub variable-letters : (w i : ℕ) → lettered (getD (bytes "slyb") i 108) ≡ classAt Variables w i
-unfolding classAt lettered class-in
-variable-letters w zero = refl
-variable-letters w (suc zero) = refl
-variable-letters w (suc (suc zero)) = refl
-variable-letters w (suc (suc (suc zero))) = refl
-variable-letters w (suc (suc (suc (suc i)))) = refl
-
-pub static-letters : (w i : ℕ) → lettered (getD (bytes "slyb") i 108) ≡ classAt Statics w i
-unfolding classAt lettered class-in
-static-letters w zero = refl
-static-letters w (suc zero) = refl
-static-letters w (suc (suc zero)) = refl
-static-letters w (suc (suc (suc zero))) = refl
-static-letters w (suc (suc (suc (suc i)))) = refl
+  pub statics-alike : classAt Variables 0 i ≡ classAt Statics w i
+  unfolding classAt
+  statics-alike = refl
 
 pub function-letters : (w i : ℕ) → lettered 108 ≡ classAt Functions w i
 unfolding classAt lettered class-in

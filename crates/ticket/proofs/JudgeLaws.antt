@@ -2,16 +2,14 @@
 -- Assumes nothing.
 use mathlib.Core.Path.{_≡_, refl, sym, ap, _∙_}
 use mathlib.Core.Bool.{Bool, true, false, not, _&&_}
-use mathlib.Core.List.{List, [], _∷_, _++_}
+use mathlib.Core.List.{List, [], _∷_}
 use mathlib.Core.Option.{Option, none, some}
-use Prim.Native.Nat.{ℕ, zero, suc, _+_, _-_, _*_, _≤_, _<_}
-use native.Mathlib.Omega.{arith}
-use lib.Dec.{eqb, leb, ltb, lit<}
-use lib.ListN.{length, getD}
-use borrow.Author.Tests.{le-leb, lt-leb, eqb-false, ltb-true, not-false}
-use Rattle.tables.specs.Tables.{pick, run, storages-from, variables-from, statics-from, places-from, cell}
+use Prim.Native.Nat.{ℕ, zero, suc, _+_, _-_, _≤_, _<_}
+use lib.Dec.{leb, ltb, lit<}
+use borrow.Author.Tests.{le-leb, lt-leb, eqb-false, not-false}
+use Rattle.tables.specs.Tables.{pick, row-of, run, storages-from, variables-from, statics-from, places-from, cell}
 use Rattle.spec.specs.Limits.{size-sum-limit, weight-sum-limit}
-use Rattle.spec.specs.Read.{Used, Reading, Step, stop, go, once, mark}
+use Rattle.spec.specs.Read.{stop, once}
 use Rattle.ticket.specs.Classes.{argsOf}
 use Rattle.spec.specs.Ticket.{arg}
 use Rattle.spec.specs.Forms.{Arg, Field, between, float-width, type-part, type, storage, place, node}
@@ -34,10 +32,11 @@ use Rattle.ticket.specs.Rows.{
   nodeRow,
   nodes-from,
 }
+use Rattle.ticket.specs.Keys.{Keyed}
 use Rattle.ticket.specs.declared.LineKind.the-variants.{Functions, Types, Storages, Variables, Statics, Places, Nodes}
 use Rattle.ticket.proofs.RowLaws.{section-same}
 use Rattle.ticket.specs.Steps.{Measure, capped, cappedOf, measuredOf, deepestIn, depthIn, MarkedAll, Alike}
-use Rattle.ticket.specs.Grown.{grown, Added}
+use Rattle.ticket.specs.Grown.{Added}
 use Rattle.ticket.specs.Judged.{
   startIn,
   typesIn,
@@ -47,21 +46,16 @@ use Rattle.ticket.specs.Judged.{
   sumsIn,
   summed,
   summedOf,
-  extent,
   with-sums,
   with-depth,
   with-test,
   with-size,
   last-step,
   late-step,
-  marking,
-  stepOf,
-  Goes,
   Judged,
 }
 use Rattle.ticket.specs.declared.LineKind.{LineKind}
 use Rattle.tables.specs.declared.Counts.{Counts}
-use Rattle.ticket.specs.declared.Extent.{Extent}
 use Rattle.ticket.specs.declared.Form.{Form}
 use Rattle.ticket.specs.declared.Capped.{Capped}
 use Rattle.ticket.specs.declared.Capped.the-variants.{Within, Over}
@@ -71,7 +65,7 @@ use Rattle.ticket.specs.declared.Stepped.{Stepped}
 use Rattle.ticket.specs.declared.Stepped.the-variants.{Went, Turned}
 use Rattle.ticket.specs.declared.Summed.{Summed}
 use Rattle.ticket.specs.declared.Summed.the-variants.{Sums, Beyond}
-use Rattle.ticket.proofs.MeasureLaws.{cap-in, cap-out, cap-is}
+use Rattle.ticket.proofs.MeasureLaws.{cap-is}
 
 pub start-more : (k w : ℕ) → (k ≡ 0 → ⊥) → (k ≡ 1 → ⊥) → true ≡ startIn k w
 start-more zero w a b = absurd (a refl)
@@ -124,11 +118,11 @@ module _ (ws ls : List ℕ) (c : Counts) (f : Form) (s w d a : ℕ) (e : d ≡ d
   unfolding last-step with-depth with-sums
   last-beyond h r p q = record { answer = rw (← e, ← g, lt-leb a d h, ← p, q); goes = tt }
 
-  pub last-goes : d < a → (r : Summed) (x y : ℕ) → summedOf r ≡ sumsIn ws ls c (f .kind) (f .count) → r ≡ Sums x y → (t : List ℕ) (k : Counts)
+  pub last-goes : Keyed ws ls (c .types) → d < a → (r : Summed) (x y : ℕ) → summedOf r ≡ sumsIn ws ls c (f .kind) (f .count) → r ≡ Sums x y → (t : List ℕ) (k : Counts)
       → Added ws t ls c (f .kind) (f .word) (f .count) (record { size = s; weight = w; depth = d + 1; sizes = x; weights = y }) k
       → Judged (last-step ws ls c f s w) t ls c f (Went k)
   unfolding last-step with-depth with-sums
-  last-goes h r x y p q t k b = record { answer = rw (b .reading, ← e, ← g, lt-leb a d h, ← p, q); goes = (b .held, b .used, b .lines) }
+  last-goes i h r x y p q t k b = record { answer = rw (b .reading, ← e, ← g, lt-leb a d h, ← p, q); goes = (b .held, b .keyed i, b .used, b .lines) }
 
 -- ---------------------------------------------------------------- the three before them
 
@@ -164,17 +158,17 @@ module _ (ws ls : List ℕ) (c : Counts) (f : Form) (b : Bool) (p : b ≡ typesI
 module _ (u t ls : List ℕ) (c : Counts) (few : Few c) (a : Alike u t) where
   alike-entry : (base n k j other : ℕ) → (j ≡ 5 → ⊥) → j < 6 → cell t base n k j other ≡ cell u base n k j other
   unfolding cell word-at
-  alike-entry base n k j other h l = rw (a .cells (base + k) j h l)
+  alike-entry base n k j other h l = rw (a .cells (row-of base k) j h l)
 
   alike-types : (k : ℕ) → cell t 0 (c .types) k 5 1 ≡ cell u 0 (c .types) k 5 1
   unfolding cell word-at rowAt
   alike-types k = by (ltb k (c .types)) refl
     where
-      by : (b : Bool) → ltb k (c .types) ≡ b → pick b (word-at t (0 + k) 5) 1 ≡ pick b (word-at u (0 + k) 5) 1
-      by true e = ap (λ (r : Row). r .fifth) (a .rows (0 + k) (omega (arith, ltb-true k (c .types) e, few .types)))
+      by : (b : Bool) → ltb k (c .types) ≡ b → pick b (word-at t (row-of 0 k) 5) 1 ≡ pick b (word-at u (row-of 0 k) 5) 1
+      by true e = ap (λ (r : Row). r .fifth) (a .rows 0 k (lit< tt))
       by false e = refl
 
-  depth-alike : (f : Field) (x : ℕ) → depthIn t c f x ≡ depthIn u c f x
+  pub depth-alike : (f : Field) (x : ℕ) → depthIn t c f x ≡ depthIn u c f x
   depth-alike (between m n) x = refl
   depth-alike float-width x = refl
   depth-alike type-part x = alike-types x
@@ -200,14 +194,14 @@ module _ (u t ls : List ℕ) (c : Counts) (few : Few c) (a : Alike u t) where
   pub sums-alike : (k : LineKind) (n : ℕ) → sumsIn t ls c k n ≡ sumsIn u ls c k n
   sums-alike k n = rw (own-alike k n 3 0 (λ e. eqb-false 3 5 refl e) (lit< tt), own-alike k n 4 1 (λ e. eqb-false 4 5 refl e) (lit< tt))
 
-  plain-rows : {A : Type 0} (f : Row → A) (base n : ℕ) → base + n ≤ places-from → section f t base n ≡ section f u base n
-  plain-rows f base n h = section-same f u t base n (λ k l. ap f (a .rows (base + k) (omega arith)))
+  plain-rows : {A : Type 0} (f : Row → A) (base n : ℕ) → base < places-from → section f t base n ≡ section f u base n
+  plain-rows f base n h = section-same f u t base n (λ k l. ap f (a .rows base k h))
 
   place-rows : (base n : ℕ) → section (placeRow ls) t base n ≡ section (placeRow ls) u base n
   unfolding rowAt numbers
   place-rows base n =
       section-same (placeRow ls) u t base n
-      (λ k l. rw (c0 (base + k), c1 (base + k), c2 (base + k), c3 (base + k), c4 (base + k)))
+      (λ k l. rw (c0 (row-of base k), c1 (row-of base k), c2 (row-of base k), c3 (row-of base k), c4 (row-of base k)))
     where
       c0 : (q : ℕ) → word-at t q 0 ≡ word-at u q 0
       c0 q = a .cells q 0 (λ e. eqb-false 0 5 refl e) (lit< tt)
@@ -228,7 +222,7 @@ module _ (u t ls : List ℕ) (c : Counts) (few : Few c) (a : Alike u t) where
   unfolding rowAt numbers
   node-rows base n =
       section-same (nodeRow ls) u t base n
-      (λ k l. rw (c0 (base + k), c1 (base + k), c2 (base + k), c3 (base + k), c4 (base + k)))
+      (λ k l. rw (c0 (row-of base k), c1 (row-of base k), c2 (row-of base k), c3 (row-of base k), c4 (row-of base k)))
     where
       c0 : (q : ℕ) → word-at t q 0 ≡ word-at u q 0
       c0 q = a .cells q 0 (λ e. eqb-false 0 5 refl e) (lit< tt)
@@ -249,17 +243,17 @@ module _ (u t ls : List ℕ) (c : Counts) (few : Few c) (a : Alike u t) where
   unfolding tablesOf
   tables-alike =
       rw (
-        plain-rows (typeRow ls) 0 (c .types) (omega (arith, few .types)),
-        plain-rows (storageRow ls) storages-from (c .storages) (omega (arith, few .storages)),
-        plain-rows (placedRow ls) variables-from (c .variables) (omega (arith, few .variables)),
-        plain-rows (placedRow ls) statics-from (c .statics) (omega (arith, few .statics)),
+        plain-rows (typeRow ls) 0 (c .types) (lit< tt),
+        plain-rows (storageRow ls) storages-from (c .storages) (lit< tt),
+        plain-rows (placedRow ls) variables-from (c .variables) (lit< tt),
+        plain-rows (placedRow ls) statics-from (c .statics) (lit< tt),
         place-rows places-from (c .places),
         node-rows nodes-from (c .nodes),
       )
 
   inside-alike : (used base n : ℕ) → Inside u used base n → Inside t used base n
   inside-alike used base n i =
-      record { ends = λ k h. rw (a .cells (base + k) 1 (λ e. eqb-false 1 5 refl e) (lit< tt), a .cells (base + k) 2 (λ e. eqb-false 2 5 refl e) (lit< tt)) (i .ends k h) }
+      record { ends = λ k h. rw (a .cells (row-of base k) 1 (λ e. eqb-false 1 5 refl e) (lit< tt), a .cells (row-of base k) 2 (λ e. eqb-false 2 5 refl e) (lit< tt)) (i .ends k h) }
 
   pub held-alike : Held u c → Held t c
   held-alike h =

@@ -1,24 +1,23 @@
 -- A line's form in the shape of the code's needs.
 -- Assumes nothing.
-use mathlib.Core.Path.{_≡_, refl, sym, ap, subst, _∙_}
-use mathlib.Core.List.{List, [], _∷_, _++_}
+use mathlib.Core.Path.{_≡_, refl, sym, _∙_}
+use mathlib.Core.List.{List, [], _∷_}
 use mathlib.Core.Option.{Option, none, some}
 use mathlib.Core.Logic.{_≢_}
 use Prim.Native.Nat.{ℕ, zero, suc, _+_, _*_, _≤_, _<_}
 use native.Mathlib.Omega.{arith}
-use native.Mathlib.Nat.{add-zero}
 use lib.ListN.{length, getD, set, length-set}
 use lib.Seq.{getD-set-same, getD-set-other}
 use Rattle.spec.specs.Text.{bytes}
 use Rattle.tables.specs.Tables.{tab, run}
-use Rattle.fields.specs.Fields.{numbers-of, onto, fields-from, Kept, WordAt, NumberAt}
+use Rattle.fields.specs.Fields.{numbers-of, onto, fields-from, WordAt, NumberAt}
 use Rattle.fields.specs.declared.Cursor.{Cursor}
 use Rattle.fields.specs.declared.Keyword.{Keyword}
-use Rattle.fields.specs.declared.Keyword.the-variants.{Word, Unknown}
+use Rattle.fields.specs.declared.Keyword.the-variants.{Word}
 use Rattle.fields.specs.declared.Decimal.{Decimal}
-use Rattle.fields.specs.declared.Decimal.the-variants.{Value, Malformed}
+use Rattle.fields.specs.declared.Decimal.the-variants.{Value}
 use Rattle.fields.proofs.Tabs.{kept-all}
-use Rattle.spec.specs.Forms.{Line, Field, type-form, place-form, node-form, form-of, lineOf, kF, kT, kS, kV, kG, kP, kN}
+use Rattle.spec.specs.Forms.{Line, Field, type-form, place-form, node-form, form-of, lineOf}
 use Rattle.ticket.specs.Classes.{classAt, formBy, FormAt, kindAt, node-words}
 use Rattle.ticket.specs.declared.LineKind.{LineKind}
 use Rattle.ticket.specs.declared.LineKind.the-variants.{Functions, Types, Storages, Variables, Statics, Places, Nodes}

@@ -1,23 +1,23 @@
 -- Types compared and measured, from number to number.
 -- Assumes nothing.
 use mathlib.Core.Path.{_≡_, refl, sym, ap, _∙_}
-use mathlib.Core.Bool.{Bool, true, false, not, _&&_, _||_}
-use mathlib.Core.List.{List, [], _∷_, _++_, map}
+use mathlib.Core.Bool.{Bool, true, false, _&&_}
+use mathlib.Core.List.{List, [], _∷_}
 use mathlib.Core.Option.{Option, none, some}
 use Prim.Native.Nat.{ℕ, zero, suc, _+_, _-_, _*_, _/_, _≤_, _<_}
 use native.Mathlib.Omega.{arith}
 use native.Mathlib.Nat.{zero-add, add-zero, mul-zero, div-lt-iff-lt-mul, le-div-iff-mul-le}
-use lib.Dec.{eqb, leb, ltb, lit≤}
+use lib.Dec.{leb, lit≤}
 use lib.ListN.{length, getD, List·getD-map}
 use borrow.Author.Tests.{le-leb, lt-leb, eq-eqb, ne-eqb, leb-false, lt-ltb}
 use Rattle.spec.specs.Text.{same}
-use Rattle.tables.specs.Tables.{tab, pick, run, cell, type-word-by}
+use Rattle.tables.specs.Tables.{tab, pick, row-of, run, cell, type-word-by}
 use Rattle.fields.proofs.Tabs.{tab-here, tab-done, same-lengths}
 use Rattle.spec.specs.Limits.{type-size-limit, type-weight-limit}
-use Rattle.spec.specs.Ticket.{TypeWord, tUnit, TypeLine, arg, sum, type-size-by, weight-by}
+use Rattle.spec.specs.Ticket.{TypeWord, tUnit, sum, type-size-by, weight-by}
 use Rattle.spec.specs.Forms.{Rule, rule, type-rules}
 use Rattle.spec.specs.Read.{alike, type-number}
-use Rattle.ticket.specs.Rows.{Row, rowAt, section, typeRow, word-at, numbers, Held}
+use Rattle.ticket.specs.Rows.{rowAt, section, typeRow, word-at, numbers, Held}
 use Rattle.tables.specs.declared.Counts.{Counts}
 use Rattle.ticket.specs.Steps.{capped, cappedOf, moreOf, measured, Measure, alikeTo}
 use Rattle.ticket.specs.declared.Capped.{Capped}
@@ -37,11 +37,11 @@ pub ruleset capping = (cap-in, cap-out)
 
 -- ---------------------------------------------------------------- runs
 
-run-here : (ls : List ℕ) (a i n : ℕ) → i < n → run ls (a + i) (n - i) ≡ getD ls (a + i) 0 ∷ run ls (a + (i + 1)) (n - (i + 1))
+pub run-here : (ls : List ℕ) (a i n : ℕ) → i < n → run ls (a + i) (n - i) ≡ getD ls (a + i) 0 ∷ run ls (a + (i + 1)) (n - (i + 1))
 unfolding run tab
 run-here ls a i n h = let e : n - i ≡ suc (n - (i + 1)) = omega arith in let g : suc (a + i) ≡ a + (i + 1) = omega arith in rw (e, tab, g)
 
-run-done : (ls : List ℕ) (a i n : ℕ) → n ≤ i → run ls (a + i) (n - i) ≡ []
+pub run-done : (ls : List ℕ) (a i n : ℕ) → n ≤ i → run ls (a + i) (n - i) ≡ []
 unfolding run tab
 run-done ls a i n h = let e : n - i ≡ 0 = omega arith in rw e
 
@@ -115,23 +115,23 @@ number-out w h = getD-outside type-numbers w 0 h ∙ number-at w
 -- ---------------------------------------------------------------- alike types
 
 module _ (ls ws : List ℕ) (word w n : ℕ) (xs : List ℕ) (e : w ≡ type-number (type-word-by word)) where
-  pub alike-start : alike (type-word-by word) xs (section (typeRow ls) ws 0 n) ≡ alike (type-word-by word) xs (tab (λ k. typeRow ls (rowAt ws (0 + k))) 0 (n - 0))
+  pub alike-start : alike (type-word-by word) xs (section (typeRow ls) ws 0 n) ≡ alike (type-word-by word) xs (tab (λ k. typeRow ls (rowAt ws (row-of 0 k))) 0 (n - 0))
   unfolding section
   alike-start = let z : n - 0 ≡ n = omega arith in rw z
 
-  module _ (o : Bool) (i : ℕ) (q : o ≡ alike (type-word-by word) xs (tab (λ k. typeRow ls (rowAt ws (0 + k))) i (n - i))) where
+  module _ (o : Bool) (i : ℕ) (q : o ≡ alike (type-word-by word) xs (tab (λ k. typeRow ls (rowAt ws (row-of 0 k))) i (n - i))) where
     pub alike-end : n ≤ i → false ≡ o
     unfolding alike
-    alike-end h = sym (q ∙ rw (tab-done (λ k. typeRow ls (rowAt ws (0 + k))) i n h))
+    alike-end h = sym (q ∙ rw (tab-done (λ k. typeRow ls (rowAt ws (row-of 0 k))) i n h))
 
-    pub alike-here : (b : Bool) → i < n → b ≡ alikeTo w xs (typeRow ls (rowAt ws i)) → b ≡ true → true ≡ o
+    pub alike-here : (b : Bool) → i < n → b ≡ alikeTo w xs (typeRow ls (rowAt ws (row-of 0 i))) → b ≡ true → true ≡ o
     unfolding alike
-    alike-here b h p g = sym (q ∙ rw (tab-here (λ k. typeRow ls (rowAt ws (0 + k))) i n h, zero-add, ← e, ← p, g))
+    alike-here b h p g = sym (q ∙ rw (tab-here (λ k. typeRow ls (rowAt ws (row-of 0 k))) i n h, ← e, ← p, g))
 
-    pub alike-next : (b : Bool) → i < n → b ≡ alikeTo w xs (typeRow ls (rowAt ws i)) → b ≡ false
-        → o ≡ alike (type-word-by word) xs (tab (λ k. typeRow ls (rowAt ws (0 + k))) (i + 1) (n - (i + 1)))
+    pub alike-next : (b : Bool) → i < n → b ≡ alikeTo w xs (typeRow ls (rowAt ws (row-of 0 i))) → b ≡ false
+        → o ≡ alike (type-word-by word) xs (tab (λ k. typeRow ls (rowAt ws (row-of 0 k))) (i + 1) (n - (i + 1)))
     unfolding alike
-    alike-next b h p g = q ∙ rw (tab-here (λ k. typeRow ls (rowAt ws (0 + k))) i n h, zero-add, ← e, ← p, g)
+    alike-next b h p g = q ∙ rw (tab-here (λ k. typeRow ls (rowAt ws (row-of 0 k))) i n h, ← e, ← p, g)
 
 -- ---------------------------------------------------------------- products and sums within a limit
 
@@ -235,23 +235,23 @@ plain-weight f (suc (suc (suc (suc (suc (suc (suc (suc (suc w))))))))) xs e g h 
 
 -- ---------------------------------------------------------------- a row compared
 
-pub row-cell : (ws : List ℕ) (n k j other v : ℕ) → k < n → v ≡ cell ws 0 n k j other → v ≡ word-at ws k j
+pub row-cell : (ws : List ℕ) (n k j other v : ℕ) → k < n → v ≡ cell ws 0 n k j other → v ≡ word-at ws (row-of 0 k) j
 unfolding cell word-at
-row-cell ws n k j other v h e = e ∙ rw (lt-ltb k n h, zero-add)
+row-cell ws n k j other v h e = e ∙ rw (lt-ltb k n h)
 
 module _ (ls ws xs : List ℕ) (n k w v m : ℕ) (h : k < n) (p : v ≡ cell ws 0 n k 0 0) (q : m ≡ type-number (type-word-by v)) where
-  pub row-other : (m ≡ w → ⊥) → false ≡ alikeTo w xs (typeRow ls (rowAt ws k))
+  pub row-other : (m ≡ w → ⊥) → false ≡ alikeTo w xs (typeRow ls (rowAt ws (row-of 0 k)))
   unfolding rowAt
   row-other g = rw (← row-cell ws n k 0 0 v h p, ← q, ne-eqb w m (λ e. g (sym e)))
 
-  pub row-same : (a b : ℕ) (r : Bool) → m ≡ w → a ≡ cell ws 0 n k 1 0 → b ≡ cell ws 0 n k 2 0 → r ≡ same xs (run ls a b) → r ≡ alikeTo w xs (typeRow ls (rowAt ws k))
+  pub row-same : (a b : ℕ) (r : Bool) → m ≡ w → a ≡ cell ws 0 n k 1 0 → b ≡ cell ws 0 n k 2 0 → r ≡ same xs (run ls a b) → r ≡ alikeTo w xs (typeRow ls (rowAt ws (row-of 0 k)))
   unfolding rowAt numbers
   row-same a b r g s t u =
       rw (← row-cell ws n k 0 0 v h p, ← q, eq-eqb w m (sym g), ← row-cell ws n k 1 0 a h s, ← row-cell ws n k 2 0 b h t) u
 
 pub row-ends : (ws : List ℕ) (c : Counts) (k a b : ℕ) → Held ws c → k < c .types → a ≡ cell ws 0 (c .types) k 1 0 → b ≡ cell ws 0 (c .types) k 2 0 → a + b ≤ c .used
 row-ends ws c k a b held h s t =
-    rw (row-cell ws (c .types) k 1 0 a h s, row-cell ws (c .types) k 2 0 b h t) (rw zero-add at (held .types .ends k h))
+    rw (row-cell ws (c .types) k 1 0 a h s, row-cell ws (c .types) k 2 0 b h t) (held .types .ends k h)
 
 module _ (f : ℕ → ℕ) (w : ℕ) (xs : List ℕ) where
   pub plain-weighs : (w ≡ 5 → ⊥) → (w ≡ 6 → ⊥) → (w ≡ 7 → ⊥) → some 1 ≡ capped type-weight-limit (weight-by f (type-word-by w) xs)

@@ -1,23 +1,22 @@
 -- A form whose numbers stand in the lists.
 -- Assumes nothing.
-use mathlib.Core.Path.{_≡_, refl, sym, ap, _∙_}
+use mathlib.Core.Path.{_≡_, ap}
 use mathlib.Core.Bool.{Bool, true, false}
-use mathlib.Core.List.{List, [], _∷_, _++_}
-use mathlib.Core.Option.{Option, none, some}
-use Prim.Native.Nat.{ℕ, zero, suc, _+_, _-_, _*_, _≤_, _<_}
+use mathlib.Core.List.{List, _∷_, _++_}
+use mathlib.Core.Option.{none, some}
+use Prim.Native.Nat.{ℕ, zero, suc, _+_, _-_, _*_, _≤_}
 use native.Mathlib.Omega.{arith}
 use native.Mathlib.Nat.{add-zero, zero-add}
-use lib.ListN.{length, getD, set}
+use lib.ListN.{length, getD}
 use Rattle.tables.specs.Tables.{tab, pick, run}
-use Rattle.fields.specs.Fields.{numbers-of, onto, fields-from, listedOf, Listing, Fewer, Kept}
+use Rattle.fields.specs.Fields.{numbers-of, onto, fields-from, Listing, Kept}
 use Rattle.fields.specs.declared.Listed.{Listed}
 use Rattle.fields.specs.declared.Listed.the-variants.{Numbers, Broken}
 use Rattle.tables.proofs.Laws.{length-run, arg-in}
 use Rattle.fields.proofs.Tabs.{tab-same, run-kept}
-use Rattle.spec.specs.Forms.{Arg, Line}
-use Rattle.ticket.specs.Classes.{headOf, classAt, argAt, counted, formBy, argsOf, lineFrom, formedOf, FormAt}
+use Rattle.spec.specs.Forms.{Line}
+use Rattle.ticket.specs.Classes.{classAt, argAt, counted, formBy, argsOf, lineFrom, FormAt}
 use Rattle.ticket.specs.declared.LineKind.{LineKind}
-use Rattle.ticket.specs.declared.Form.{Form}
 use Rattle.ticket.specs.declared.Formed.{Formed}
 use Rattle.ticket.specs.declared.Formed.the-variants.{Line as Lined, Unformed}
 

@@ -1,27 +1,24 @@
 -- From line to line, and the text's end.
 -- Assumes nothing.
-use mathlib.Core.Path.{_≡_, refl, sym, ap, _∙_}
+use mathlib.Core.Path.{_≡_, refl, sym, _∙_}
 use mathlib.Core.Bool.{Bool, true, false, not}
 use mathlib.Core.List.{List, [], _∷_, _++_}
 use mathlib.Core.Option.{Option, none, some}
-use Prim.Native.Nat.{ℕ, zero, suc, _+_, _-_, _*_, _≤_, _<_, min}
+use Prim.Native.Nat.{ℕ, zero, suc, _+_, _-_, _*_, _/_, _≤_, _<_, min}
 use native.Mathlib.Omega.{arith}
 use native.Mathlib.Numerals.{add-one}
-use native.Mathlib.Nat.{zero-add}
 use lib.Dec.{eqb, leb, lit≤}
-use lib.ListN.{length, getD, take, drop, length-drop, length-take, drop-of-length-le}
+use lib.ListN.{length, take, drop, length-drop, drop-of-length-le}
 use lib.Seq.{length-take-le, drop-cons}
 use borrow.Author.Tests.{le-leb, lt-leb, eq-eqb, ne-eqb, lt-ltb}
 use Rattle.spec.specs.Text.{split, line-feed}
-use Rattle.tables.specs.Tables.{tab, pick, places-from, cell, tables-of}
+use Rattle.tables.specs.Tables.{tab, pick, row-of, places-from, cell, tables-of}
 use Rattle.fields.specs.Fields.{Found}
 use Rattle.fields.proofs.Marks.{split-from, split-some}
 use Rattle.spec.specs.Limits.{text-limit}
-use Rattle.spec.specs.Ticket.{PlaceLine, NodeLine}
 use Rattle.spec.specs.Forms.{lineOf}
 use Rattle.spec.specs.Read.{
   Reading,
-  Step,
   stop,
   go,
   step,
@@ -32,7 +29,6 @@ use Rattle.spec.specs.Read.{
   left-nodes,
   least,
   left-over,
-  end-by,
   at-end,
   at-tail,
   read-lines,
@@ -40,7 +36,6 @@ use Rattle.spec.specs.Read.{
   read-ticket,
 }
 use Rattle.ticket.specs.Rows.{
-  Row,
   rowAt,
   word-at,
   section,
@@ -51,12 +46,13 @@ use Rattle.ticket.specs.Rows.{
   usedOf,
   readingOf,
   Few,
-  Inside,
   Held,
+  RoomIs,
   nodes-from,
 }
-use Rattle.ticket.specs.Judged.{stepOf, StepAt, LineGoes}
-use Rattle.ticket.specs.Answers.{leastOf, joined, with-left, least-rows, but-last, left-of, answerOf, Answered, advanceOf, Ahead, Advance, behindOf, Begun}
+use Rattle.ticket.specs.Keys.{Keyed}
+use Rattle.ticket.specs.Judged.{StepAt, LineGoes}
+use Rattle.ticket.specs.Answers.{leastOf, joined, with-left, least-rows, but-last, left-of, Answered, advanceOf, Advance, behindOf, Begun}
 use Rattle.tables.specs.declared.Counts.{Counts}
 use Rattle.ticket.specs.declared.Least.{Least}
 use Rattle.ticket.specs.declared.Least.the-variants.{Line, Nothing}
@@ -68,6 +64,7 @@ use Rattle.ticket.specs.declared.Stepped.{Stepped}
 use Rattle.ticket.specs.declared.Stepped.the-variants.{Went, Turned}
 use Rattle.ticket.proofs.RowLaws.{length-section}
 use Rattle.ticket.proofs.TableLaws.{tables-are}
+use Rattle.ticket.proofs.MarkLaws.{no-truth}
 
 -- ---------------------------------------------------------------- lines left over
 
@@ -99,29 +96,29 @@ left-out ws q o p e = by (eqb (word-at ws q 5) 0)
 
 module _ (ws ls : List ℕ) (base : ℕ) where
   places-left : (o : Option ℕ) (i n : ℕ)
-      → onto (left-places (tab (λ k. placeRow ls (rowAt ws (base + k))) i n) (tab (λ k. marked (rowAt ws (base + k))) i n)) o ≡ least-rows ws base i n o
+      → onto (left-places (tab (λ k. placeRow ls (rowAt ws (row-of base k))) i n) (tab (λ k. marked (rowAt ws (row-of base k))) i n)) o ≡ least-rows ws base i n o
   unfolding tab left-places onto least-rows
   places-left o i zero = refl
-  places-left o i (suc n) = by (marked (rowAt ws (base + i))) ∙ left-out ws (base + i) _ _ (places-left o (suc i) n)
+  places-left o i (suc n) = by (marked (rowAt ws (row-of base i))) ∙ left-out ws (row-of base i) _ _ (places-left o (suc i) n)
     where
       xs : List ℕ
-      xs = left-places (tab (λ k. placeRow ls (rowAt ws (base + k))) (suc i) n) (tab (λ k. marked (rowAt ws (base + k))) (suc i) n)
+      xs = left-places (tab (λ k. placeRow ls (rowAt ws (row-of base k))) (suc i) n) (tab (λ k. marked (rowAt ws (row-of base k))) (suc i) n)
 
-      by : (t : Bool) → onto (elim t as (λ x. List ℕ) [ true ↦ xs | false ↦ (rowAt ws (base + i)) .third ∷ xs ]) o ≡ pick t (onto xs o) (joined ((rowAt ws (base + i)) .third) (onto xs o))
+      by : (t : Bool) → onto (elim t as (λ x. List ℕ) [ true ↦ xs | false ↦ (rowAt ws (row-of base i)) .third ∷ xs ]) o ≡ pick t (onto xs o) (joined ((rowAt ws (row-of base i)) .third) (onto xs o))
       by true = refl
       by false = refl
 
   nodes-left : (i n : ℕ)
-      → onto (left-nodes (tab (λ k. nodeRow ls (rowAt ws (base + k))) i n) (tab (λ k. marked (rowAt ws (base + k))) i n)) none ≡ least-rows ws base i (but-last n) none
+      → onto (left-nodes (tab (λ k. nodeRow ls (rowAt ws (row-of base k))) i n) (tab (λ k. marked (rowAt ws (row-of base k))) i n)) none ≡ least-rows ws base i (but-last n) none
   unfolding tab left-nodes onto least-rows
   nodes-left i zero = refl
   nodes-left i (suc zero) = refl
-  nodes-left i (suc (suc n)) = by (marked (rowAt ws (base + i))) ∙ left-out ws (base + i) _ _ (nodes-left (suc i) (suc n))
+  nodes-left i (suc (suc n)) = by (marked (rowAt ws (row-of base i))) ∙ left-out ws (row-of base i) _ _ (nodes-left (suc i) (suc n))
     where
       xs : List ℕ
-      xs = left-nodes (tab (λ k. nodeRow ls (rowAt ws (base + k))) (suc i) (suc n)) (tab (λ k. marked (rowAt ws (base + k))) (suc i) (suc n))
+      xs = left-nodes (tab (λ k. nodeRow ls (rowAt ws (row-of base k))) (suc i) (suc n)) (tab (λ k. marked (rowAt ws (row-of base k))) (suc i) (suc n))
 
-      by : (t : Bool) → onto (elim t as (λ x. List ℕ) [ true ↦ xs | false ↦ (rowAt ws (base + i)) .third ∷ xs ]) none ≡ pick t (onto xs none) (joined ((rowAt ws (base + i)) .third) (onto xs none))
+      by : (t : Bool) → onto (elim t as (λ x. List ℕ) [ true ↦ xs | false ↦ (rowAt ws (row-of base i)) .third ∷ xs ]) none ≡ pick t (onto xs none) (joined ((rowAt ws (row-of base i)) .third) (onto xs none))
       by true = refl
       by false = refl
 
@@ -129,8 +126,8 @@ left-is : (ws ls : List ℕ) (c : Counts) → left-over (readingOf ws ls c) ≡ 
 unfolding left-over readingOf tablesOf usedOf section
 left-is ws ls c =
     least-is _
-    ∙ onto-both (left-places (tab (λ k. placeRow ls (rowAt ws (places-from + k))) 0 (c .places)) (tab (λ k. marked (rowAt ws (places-from + k))) 0 (c .places)))
-    (left-nodes (tab (λ k. nodeRow ls (rowAt ws (nodes-from + k))) 0 (c .nodes)) (tab (λ k. marked (rowAt ws (nodes-from + k))) 0 (c .nodes))) none
+    ∙ onto-both (left-places (tab (λ k. placeRow ls (rowAt ws (row-of places-from k))) 0 (c .places)) (tab (λ k. marked (rowAt ws (row-of places-from k))) 0 (c .places)))
+    (left-nodes (tab (λ k. nodeRow ls (rowAt ws (row-of nodes-from k))) 0 (c .nodes)) (tab (λ k. marked (rowAt ws (row-of nodes-from k))) 0 (c .nodes))) none
     ∙ rw (nodes-left ws ls nodes-from 0 (c .nodes)) (places-left ws ls places-from (least-rows ws nodes-from 0 (but-last (c .nodes)) none) 0 (c .places))
 
 nodes-length : (ws ls : List ℕ) (c : Counts) → length ((readingOf ws ls c) .tables .nodes) ≡ c .nodes
@@ -141,35 +138,35 @@ lines-suc : (ws ls : List ℕ) (c : Counts) → refused 2 (c .lines + 1) ≡ ref
 unfolding readingOf
 lines-suc ws ls c = rw add-one
 
-tables-in : (ws ls : List ℕ) (c : Counts) → accepted (tables-of ws (drop 5376 ws) ls c) ≡ accepted ((readingOf ws ls c) .tables)
+tables-in : (ws ls : List ℕ) (c : Counts) → accepted (tables-of ws (drop 30 ws) ls c) ≡ accepted ((readingOf ws ls c) .tables)
 unfolding readingOf
 tables-in ws ls c = rw (tables-are ws ls c)
 
 module _ (ws ls : List ℕ) (c : Counts) (r : Least) (p : leastOf r ≡ left-of ws c) where
   pub end-left : (n : ℕ) → r ≡ Line n → Answered (at-end (readingOf ws ls c)) ws ls (Refused 7 n)
-  unfolding at-end answerOf
+  unfolding at-end
   end-left n e = record { answer = rw (left-is ws ls c, ← p, e); held = tt }
 
   pub end-none : r ≡ Nothing → c .nodes ≡ 0 → Answered (at-end (readingOf ws ls c)) ws ls (Refused 2 (c .lines + 1))
-  unfolding at-end answerOf
+  unfolding at-end
   end-none e h = record { answer = rw (left-is ws ls c, ← p, e, nodes-length ws ls c, eq-eqb (c .nodes) 0 h) (lines-suc ws ls c); held = tt }
 
   pub end-accepted : r ≡ Nothing → (c .nodes ≡ 0 → ⊥) → Held ws c → c .used ≤ length ls → Answered (at-end (readingOf ws ls c)) ws ls (Accepted c)
-  unfolding at-end answerOf
+  unfolding at-end
   end-accepted e h g l = record { answer = rw (left-is ws ls c, ← p, e, nodes-length ws ls c, ne-eqb (c .nodes) 0 h) (tables-in ws ls c); held = (g, l) }
 
 -- ---------------------------------------------------------------- rows left over, one by one
 
-pub row-marked : (ws : List ℕ) (base n k v : ℕ) (o : Option ℕ) → k < n → v ≡ cell ws base n k 5 0 → (v ≡ 0 → ⊥) → o ≡ with-left ws (base + k) o
+pub row-marked : (ws : List ℕ) (base n k v : ℕ) (o : Option ℕ) → k < n → v ≡ cell ws base n k 5 0 → (v ≡ 0 → ⊥) → o ≡ with-left ws (row-of base k) o
 unfolding with-left cell word-at
 row-marked ws base n k v o h e g =
-    let z : v ≡ word-at ws (base + k) 5 = e ∙ rw (lt-ltb k n h) in rw (← z, ne-eqb v 0 g)
+    let z : v ≡ word-at ws (row-of base k) 5 = e ∙ rw (lt-ltb k n h) in rw (← z, ne-eqb v 0 g)
 
-pub row-left : (ws : List ℕ) (base n k v x : ℕ) (o p : Option ℕ) → k < n → v ≡ cell ws base n k 5 0 → v ≡ 0 → x ≡ cell ws base n k 3 0 → p ≡ joined x o → p ≡ with-left ws (base + k) o
+pub row-left : (ws : List ℕ) (base n k v x : ℕ) (o p : Option ℕ) → k < n → v ≡ cell ws base n k 5 0 → v ≡ 0 → x ≡ cell ws base n k 3 0 → p ≡ joined x o → p ≡ with-left ws (row-of base k) o
 unfolding with-left cell word-at
 row-left ws base n k v x o p h e g e′ q =
-    let z : v ≡ word-at ws (base + k) 5 = e ∙ rw (lt-ltb k n h) in
-    let y : x ≡ word-at ws (base + k) 3 = e′ ∙ rw (lt-ltb k n h) in
+    let z : v ≡ word-at ws (row-of base k) 5 = e ∙ rw (lt-ltb k n h) in
+    let y : x ≡ word-at ws (row-of base k) 3 = e′ ∙ rw (lt-ltb k n h) in
     rw (← z, eq-eqb v 0 g, ← y) q
 
 pub rows-start : (ws : List ℕ) (base n : ℕ) (o : Option ℕ) → o ≡ least-rows ws base n (n - n) o
@@ -179,7 +176,7 @@ rows-start ws base n o = let z : n - n ≡ 0 = omega arith in rw z
 pub rows-end : (ws : List ℕ) (base n k : ℕ) (o p : Option ℕ) → p ≡ least-rows ws base k (n - k) o → k ≤ 0 → p ≡ least-rows ws base 0 n o
 rows-end ws base n k o p q h = let z : k ≡ 0 = omega arith in let y : n - k ≡ n = omega arith in q ∙ rw (y, z)
 
-pub rows-next : (ws : List ℕ) (base n k : ℕ) (o p r : Option ℕ) → p ≡ least-rows ws base k (n - k) o → 0 < k → k ≤ n → r ≡ with-left ws (base + (k - 1)) p → r ≡ least-rows ws base (k - 1) (n - (k - 1)) o
+pub rows-next : (ws : List ℕ) (base n k : ℕ) (o p r : Option ℕ) → p ≡ least-rows ws base k (n - k) o → 0 < k → k ≤ n → r ≡ with-left ws (row-of base (k - 1)) p → r ≡ least-rows ws base (k - 1) (n - (k - 1)) o
 unfolding least-rows
 rows-next ws base n k o p r q h l e =
     let z : n - (k - 1) ≡ suc (n - k) = omega arith in
@@ -256,17 +253,34 @@ module _ (s u v : List ℕ) (c : Counts) (at e : ℕ) (h : at < length s) (f : F
     pub advance-go : (k : Counts) → r ≡ Went k → c .used * 2 ≤ at → Advance s u v t ls c at (Behind k (e + 1))
     unfolding advanceOf
     advance-go k q w =
-        let y : LineGoes (take (e - at) (drop at s)) t c (Went k) = (rw q at a) .goes in
+        let y : LineGoes (take (e - at) (drop at s)) t ls c (Went k) = (rw q at a) .goes in
         let l = inner in
         record {
           answer = sym (rw first (lines-go (take (e - at) (drop at s)) line-feed (drop (e + 1) s) (readingOf u v c) (readingOf t ls k) (sym (a .answer) ∙ rw q)));
-          ahead = (y .0, omega (arith, y .1, part, f .low), y .2, omega (arith, f .low), omega arith);
+          ahead = (y .0, y .1, omega (arith, y .2, part, f .low), y .3, omega (arith, f .low), omega arith);
         }
+
+-- ---------------------------------------------------------------- room
+
+module _ (n : ℕ) (c : Counts) where
+  pub has-room : c .types < n / 40 → c .storages < n / 40 → c .variables < n / 40 → c .statics < n / 40 → c .places < n / 40 → c .nodes < n / 40 → RoomIs n c true
+  has-room a b d e f g =
+      record {
+        enough = λ _. record { types = omega arith; storages = omega arith; variables = omega arith; statics = omega arith; places = omega arith; nodes = omega arith };
+        short = λ q few. absurd (no-truth (sym q));
+      }
+
+  -- a kind has as many lines as there are rows for it
+  pub no-room : (m : ℕ) → (Few c → m ≤ 256) → n / 40 ≤ m → RoomIs n c false
+  no-room m l h = record { enough = λ q. absurd (no-truth q); short = λ q few. let g = l few in omega arith }
 
 -- ---------------------------------------------------------------- the loop
 
+answered-as : {o p : Read} {t ls : List ℕ} {r : ReadAnswer} → o ≡ p → Answered p t ls r → Answered o t ls r
+answered-as e a = rw e a
+
 pub ahead-of : (s u v t ls : List ℕ) (c : Counts) (at : ℕ) (r : Advanced) (k : Counts) (p : ℕ) → Advance s u v t ls c at r → r ≡ Behind k p
-    → Held t k × (k .used * 2 ≤ p) × (k .lines ≡ c .lines + 1) × (at < p) × (p ≤ length s)
+    → Held t k × Keyed t ls (k .types) × (k .used * 2 ≤ p) × (k .lines ≡ c .lines + 1) × (at < p) × (p ≤ length s)
 ahead-of s u v t ls c at r k p a e = (rw e at a) .ahead
 
 module _ (o : Read) (s u v : List ℕ) (c : Counts) (at : ℕ) (q : o ≡ read-lines (split line-feed (drop at s)) (readingOf u v c)) where
@@ -275,12 +289,12 @@ module _ (o : Read) (s u v : List ℕ) (c : Counts) (at : ℕ) (q : o ≡ read-l
   lines-next t ls r k p a e = q ∙ sym (a .answer) ∙ rw e
 
   pub lines-stopped : (t ls : List ℕ) (r : Advanced) (n : ℕ) → Advance s u v t ls c at r → r ≡ Stopped n → Answered o t ls (Refused n (c .lines + 1))
-  unfolding advanceOf answerOf
+  unfolding advanceOf
   lines-stopped t ls r n a e = record { answer = sym (q ∙ sym (a .answer) ∙ rw e); held = tt }
 
   pub lines-over : (r : ReadAnswer) → length s ≤ at → Answered (at-end (readingOf u v c)) u v r → Answered o u v r
   unfolding split read-lines
-  lines-over r h a = record { answer = a .answer ∙ sym (q ∙ rw (drop-of-length-le s h)); held = a .held }
+  lines-over r h a = answered-as (q ∙ rw (drop-of-length-le s h)) a
 
 pub lines-begin : (s u v : List ℕ) (c : Counts) → Begun c → read-lines (split line-feed s) start ≡ read-lines (split line-feed (drop 0 s)) (readingOf u v c)
 lines-begin s u v c b = rw (b .reading u v)
@@ -300,25 +314,26 @@ begun =
             places = record { ends = λ k h. absurd (omega arith) };
             nodes = record { ends = λ k h. absurd (omega arith) };
           };
+      keyed = λ ws ls. record { each = λ k h. absurd (omega arith) };
       used = refl;
       lines = refl;
     }
 
 pub ticket-long : (s ws ls : List ℕ) → text-limit < length s → Answered (read-ticket s) ws ls (Refused 1 0)
-unfolding answerOf read-ticket
+unfolding read-ticket
 ticket-long s ws ls h = record { answer = by (leb (length s) text-limit) (lt-leb (length s) text-limit h); held = tt }
   where
     by : (t : Bool) → t ≡ false → refused 1 0 ≡ elim t as (λ x. Read) [ true ↦ read-lines (split line-feed s) start | false ↦ refused 1 0 ]
     by true e = cc
     by false e = refl
 
-lines-of : (s : List ℕ) (o : Read) → length s ≤ text-limit → o ≡ read-lines (split line-feed s) start → o ≡ read-ticket s
+lines-of : (s : List ℕ) → length s ≤ text-limit → read-ticket s ≡ read-lines (split line-feed s) start
 unfolding read-ticket
-lines-of s o h e = by (leb (length s) text-limit) (le-leb (length s) text-limit h)
+lines-of s h = by (leb (length s) text-limit) (le-leb (length s) text-limit h)
   where
-    by : (t : Bool) → t ≡ true → o ≡ elim t as (λ x. Read) [ true ↦ read-lines (split line-feed s) start | false ↦ refused 1 0 ]
-    by true q = e
+    by : (t : Bool) → t ≡ true → elim t as (λ x. Read) [ true ↦ read-lines (split line-feed s) start | false ↦ refused 1 0 ] ≡ read-lines (split line-feed s) start
+    by true q = refl
     by false q = cc
 
 pub ticket-lines : (s ws ls : List ℕ) (r : ReadAnswer) → length s ≤ text-limit → Answered (read-lines (split line-feed s) start) ws ls r → Answered (read-ticket s) ws ls r
-ticket-lines s ws ls r h a = record { answer = lines-of s (answerOf ws ls r) h (a .answer); held = a .held }
+ticket-lines s ws ls r h a = answered-as (lines-of s h) a

@@ -1,17 +1,17 @@
 -- Rows in the words of a table: what a store changes, and sections of rows.
 -- Assumes nothing.
-use mathlib.Core.Path.{_≡_, refl, sym, ap, subst, _∙_}
-use mathlib.Core.Bool.{Bool, true, false, not}
+use mathlib.Core.Path.{_≡_, refl, sym, ap, _∙_}
+use mathlib.Core.Bool.{true, false}
 use mathlib.Core.List.{List, [], _∷_, _++_}
 use mathlib.Core.Logic.{_≢_}
 use Prim.Native.Nat.{ℕ, zero, suc, _+_, _-_, _*_, _≤_, _<_}
 use native.Mathlib.Omega.{arith}
 use native.Mathlib.Nat.{add-zero, zero-add}
-use lib.Dec.{eqb, ltb, lit<}
+use lib.Dec.{lit<}
 use lib.ListN.{length, getD, set, length-set, List·getD-eq-default}
 use lib.Seq.{getD-set-same, getD-set-other, set-out}
-use borrow.Author.Tests.{eqb-false, lt-ltb, eq-eqb, ne-eqb}
-use Rattle.tables.specs.Tables.{tab, pick, cell}
+use borrow.Author.Tests.{eqb-false, lt-ltb, ne-eqb}
+use Rattle.tables.specs.Tables.{tab, row-of, cell}
 use Rattle.tables.proofs.Laws.{length-tab, getD-tab-in}
 use Rattle.fields.proofs.Tabs.{tab-more, tab-same}
 use Rattle.ticket.specs.Rows.{word-at, Row, rowAt, section, marked, RowPut, MarkAt}
@@ -22,7 +22,7 @@ pub record Stored (u t : List ℕ) (r j v : ℕ) : Type 0 where
   pub others : (q i : ℕ) → i < 6 → (q ≡ r → i ≡ j → ⊥) → word-at t q i ≡ word-at u q i
   pub long : length t ≡ length u
 
-stored : (u : List ℕ) (r j v : ℕ) → j < 6 → r * 6 + j < length u → Stored u (set u (r * 6 + j) v) r j v
+pub stored : (u : List ℕ) (r j v : ℕ) → j < 6 → r * 6 + j < length u → Stored u (set u (r * 6 + j) v) r j v
 unfolding word-at
 stored u r j v h l =
     record {
@@ -74,7 +74,12 @@ module _ (u u1 u2 u3 u4 u5 u6 : List ℕ) (r a b c d e f : ℕ) (s0 : Stored u u
 
   six : RowPut u u6 r (record { word = a; start = b; count = c; third = d; fourth = e; fifth = f })
   unfolding rowAt
-  six = record { here = rw (h0, h1, h2, h3, h4, h5); others = λ q h. rw (o0 q h, o1 q h, o2 q h, o3 q h, o4 q h, o5 q h) }
+  six =
+      record {
+        here = rw (h0, h1, h2, h3, h4, h5);
+        others = λ q h. rw (o0 q h, o1 q h, o2 q h, o3 q h, o4 q h, o5 q h);
+        long = s5 .long ∙ s4 .long ∙ s3 .long ∙ s2 .long ∙ s1 .long ∙ s0 .long;
+      }
 
 pub put-row : (u : List ℕ) (r a b c d e f : ℕ) → r * 6 + 6 ≤ length u
     → RowPut u (set (set (set (set (set (set u (r * 6) a) (r * 6 + 1) b) (r * 6 + 2) c) (r * 6 + 3) d) (r * 6 + 4) e) (r * 6 + 5) f) r
@@ -93,36 +98,36 @@ put-row u r a b c d e f l =
 module _ {A : Type 0} (f : Row → A) where
   pub length-section : (ws : List ℕ) (base n : ℕ) → length (section f ws base n) ≡ n
   unfolding section
-  length-section ws base n = length-tab (λ k. f (rowAt ws (base + k))) 0 n
+  length-section ws base n = length-tab (λ k. f (rowAt ws (row-of base k))) 0 n
 
-  pub section-at : (ws : List ℕ) (base n k : ℕ) (d : A) → k < n → getD (section f ws base n) k d ≡ f (rowAt ws (base + k))
+  pub section-at : (ws : List ℕ) (base n k : ℕ) (d : A) → k < n → getD (section f ws base n) k d ≡ f (rowAt ws (row-of base k))
   unfolding section
-  section-at ws base n k d h = getD-tab-in (λ k. f (rowAt ws (base + k))) d 0 n k h ∙ rw zero-add
+  section-at ws base n k d h = getD-tab-in (λ k. f (rowAt ws (row-of base k))) d 0 n k h ∙ rw zero-add
 
   pub section-past : (ws : List ℕ) (base n k : ℕ) (d : A) → n ≤ k → getD (section f ws base n) k d ≡ d
   section-past ws base n k d h = List·getD-eq-default (section f ws base n) d (rw (length-section ws base n) h)
 
   -- rows that f reads alike
-  pub section-same : (u t : List ℕ) (base n : ℕ) → ((k : ℕ) → k < n → f (rowAt t (base + k)) ≡ f (rowAt u (base + k))) → section f t base n ≡ section f u base n
+  pub section-same : (u t : List ℕ) (base n : ℕ) → ((k : ℕ) → k < n → f (rowAt t (row-of base k)) ≡ f (rowAt u (row-of base k))) → section f t base n ≡ section f u base n
   unfolding section
-  section-same u t base n h = tab-same (λ k. f (rowAt t (base + k))) (λ k. f (rowAt u (base + k))) 0 n (λ k l g. h k (omega arith))
+  section-same u t base n h = tab-same (λ k. f (rowAt t (row-of base k))) (λ k. f (rowAt u (row-of base k))) 0 n (λ k l g. h k (omega arith))
 
   -- one row more
-  pub section-more : (u t : List ℕ) (base n : ℕ) (x : Row) → RowPut u t (base + n) x → section f t base (n + 1) ≡ section f u base n ++ (f x ∷ [])
+  pub section-more : (u t : List ℕ) (base n : ℕ) (x : Row) → RowPut u t (row-of base n) x → section f t base (n + 1) ≡ section f u base n ++ (f x ∷ [])
   unfolding section
   section-more u t base n x p =
-      tab-more (λ k. f (rowAt t (base + k))) 0 n
-      ∙ rw (zero-add, p .here, section-same u t base n (λ k h. ap f (p .others (base + k) (before k h))))
+      tab-more (λ k. f (rowAt t (row-of base k))) 0 n
+      ∙ rw (zero-add, p .here, section-same u t base n (λ k h. ap f (p .others (row-of base k) (before k h))))
     where
-      before : (k : ℕ) → k < n → base + k ≡ base + n → ⊥
+      before : (k : ℕ) → k < n → row-of base k ≡ row-of base n → ⊥
       before k h e = omega arith
 
   -- rows elsewhere
-  pub section-kept : (u t : List ℕ) (base n r : ℕ) (x : Row) → RowPut u t r x → ((k : ℕ) → k < n → base + k ≡ r → ⊥) → section f t base n ≡ section f u base n
-  section-kept u t base n r x p h = section-same u t base n (λ k l. ap f (p .others (base + k) (h k l)))
+  pub section-kept : (u t : List ℕ) (base n r : ℕ) (x : Row) → RowPut u t r x → ((k : ℕ) → k < n → row-of base k ≡ r → ⊥) → section f t base n ≡ section f u base n
+  section-kept u t base n r x p h = section-same u t base n (λ k l. ap f (p .others (row-of base k) (h k l)))
 
 -- a word of a row that there is, looked up
-pub cell-here : (ws : List ℕ) (base n k j other : ℕ) → k < n → word-at ws (base + k) j ≡ cell ws base n k j other
+pub cell-here : (ws : List ℕ) (base n k j other : ℕ) → k < n → word-at ws (row-of base k) j ≡ cell ws base n k j other
 unfolding word-at cell
 cell-here ws base n k j other h = rw (lt-ltb k n h)
 
@@ -152,25 +157,25 @@ module _ (u : List ℕ) (base n k : ℕ) where
         others = λ q o. refl;
       }
 
-  pub mark-was : k < n → (getD u ((base + k) * 6 + 5) 0 ≡ 0 → ⊥) → MarkAt u u base n k false
+  pub mark-was : k < n → (getD u (row-of base k * 6 + 5) 0 ≡ 0 → ⊥) → MarkAt u u base n k false
   unfolding rowAt word-at section
   mark-was h e =
-      let was : marked (rowAt u (base + k)) ≡ true = rw (ne-eqb (getD u ((base + k) * 6 + 5) 0) 0 e) in
+      let was : marked (rowAt u (row-of base k)) ≡ true = rw (ne-eqb (getD u (row-of base k * 6 + 5) 0) 0 e) in
       record {
         answer = sym (section-at marked u base n k false h ∙ was);
-        marks = tab-set (λ i. marked (rowAt u (base + i))) (λ i. marked (rowAt u (base + i))) true 0 n k h (rw (zero-add) was) (λ i o. refl);
+        marks = tab-set (λ i. marked (rowAt u (row-of base i))) (λ i. marked (rowAt u (row-of base i))) true 0 n k h (rw (zero-add) was) (λ i o. refl);
         cells = λ q j a b. refl;
         others = λ q o. refl;
       }
 
-  pub mark-now : k < n → (base + n) * 6 ≤ length u → getD u ((base + k) * 6 + 5) 0 ≡ 0 → MarkAt u (set u ((base + k) * 6 + 5) 1) base n k true
+  pub mark-now : k < n → base < 6 → n * 36 ≤ length u → getD u (row-of base k * 6 + 5) 0 ≡ 0 → MarkAt u (set u (row-of base k * 6 + 5) 1) base n k true
   unfolding rowAt section
-  mark-now h l e =
-      let s = stored u (base + k) 5 1 (lit< tt) (omega arith) in
-      let z : word-at u (base + k) 5 ≡ 0 = cell-is u (base + k) 5 0 e in
+  mark-now h b l e =
+      let s = stored u (row-of base k) 5 1 (lit< tt) (omega arith) in
+      let z : word-at u (row-of base k) 5 ≡ 0 = cell-is u (row-of base k) 5 0 e in
       record {
         answer = sym (section-at marked u base n k false h ∙ rw z);
-        marks = tab-set (λ i. marked (rowAt u (base + i))) (λ i. marked (rowAt (set u ((base + k) * 6 + 5) 1) (base + i))) true 0 n k h (rw (zero-add, s .here)) (λ i o. rw (s .others (base + i) 5 (lit< tt) (λ (p : base + i ≡ base + k) q. o (omega arith))));
+        marks = tab-set (λ i. marked (rowAt u (row-of base i))) (λ i. marked (rowAt (set u (row-of base k * 6 + 5) 1) (row-of base i))) true 0 n k h (rw (zero-add, s .here)) (λ i o. rw (s .others (row-of base i) 5 (lit< tt) (λ (p : row-of base i ≡ row-of base k) q. o (omega arith))));
         cells = λ q j a b. s .others q j b (λ p g. a g);
         others = λ q o.
             rw (

@@ -1,28 +1,25 @@
 -- The code's step as `Read`'s: its tests by the words are those by the tables.
 -- Assumes nothing.
 use mathlib.Core.Path.{_≡_, refl, sym, ap, fun-ext, _∙_}
-use mathlib.Core.Bool.{Bool, true, false, not, _&&_}
+use mathlib.Core.Bool.{Bool, true, false, _&&_}
 use mathlib.Core.List.{List, [], _∷_, _++_}
 use mathlib.Core.Option.{Option, none, some}
-use Prim.Native.Nat.{ℕ, zero, suc, _+_, _-_, _*_, _≤_, _<_, max}
+use Prim.Native.Nat.{ℕ, zero, suc, _+_, _-_, _*_, _≤_, _<_}
 use native.Mathlib.Omega.{arith}
 use native.Mathlib.Numerals.{add-one}
-use native.Mathlib.Nat.{zero-add}
-use lib.Dec.{eqb, leb, ltb}
+use lib.Dec.{leb, ltb}
 use lib.ListN.{length, getD}
-use borrow.Author.Tests.{le-leb, lt-leb, leb-true, leb-false, lt-ltb, le-ltb, ltb-true, ltb-false}
-use Rattle.tables.specs.Tables.{tab, pick, run, storages-from, variables-from, statics-from, places-from, cell, type-word-by}
+use borrow.Author.Tests.{le-leb, lt-leb, leb-true, leb-false, ltb-true, ltb-false}
+use Rattle.tables.specs.Tables.{pick, row-of, run, storages-from, variables-from, statics-from, places-from, cell, type-word-by}
 use Rattle.fields.specs.Fields.{Kept}
 use Rattle.fields.proofs.Tabs.{run-kept, tab-same}
 use Rattle.spec.specs.Limits.{size-sum-limit, weight-sum-limit, type-size-limit, type-weight-limit}
-use Rattle.spec.specs.Ticket.{Tables, typeAt, placeLineAt, nodeAt, noType, noPlace, noNode, arg, type-size-by, weight-by}
+use Rattle.spec.specs.Ticket.{Tables, typeAt, noType, noPlace, noNode, arg, type-size-by, weight-by}
 use Rattle.spec.specs.Forms.{Arg, Field, between, float-width, type-part, type, storage, place, node, Line, values, lineOf}
 use Rattle.spec.specs.Read.{
-  Used,
   Reading,
   Step,
   stop,
-  go,
   Test,
   test,
   first-failed,
@@ -44,7 +41,6 @@ use Rattle.spec.specs.Read.{
   size-of,
   weight-of,
   once,
-  mark,
   depth-of,
   deepest,
   depth-of-field,
@@ -53,9 +49,8 @@ use Rattle.spec.specs.Read.{
   own-weight,
   sums-fit,
   right-start,
-  new-used,
 }
-use Rattle.ticket.specs.Classes.{headOf, argsOf, lineFrom, FormAt, formedOf}
+use Rattle.ticket.specs.Classes.{headOf, argsOf, lineFrom, FormAt}
 use Rattle.ticket.specs.Rows.{
   Row,
   rowAt,
@@ -70,21 +65,19 @@ use Rattle.ticket.specs.Rows.{
   tablesOf,
   usedOf,
   readingOf,
-  Few,
   Inside,
   Held,
   nodes-from,
 }
+use Rattle.ticket.specs.Keys.{Keyed}
 use Rattle.ticket.specs.Steps.{verdictOf, fewOf, earlierIn, earlierArg, depthIn, deepestIn, early-tests, Measure, measured}
 use Rattle.ticket.specs.Grown.{grown}
 use Rattle.ticket.specs.Judged.{
   startIn,
   typesIn,
   sizedIn,
-  nothing,
   allowedIn,
   ownIn,
-  sumsIn,
   summed,
   extent,
   with-sums,
@@ -108,8 +101,9 @@ use Rattle.ticket.specs.declared.Verdict.{Verdict}
 use Rattle.ticket.specs.declared.Verdict.the-variants.{Passed, Refused}
 use Rattle.ticket.specs.declared.Stepped.{Stepped}
 use Rattle.ticket.specs.declared.Stepped.the-variants.{Went, Turned}
-use Rattle.ticket.proofs.RowLaws.{section-at, section-past, length-section, section-same}
+use Rattle.ticket.proofs.RowLaws.{section-at, section-past, length-section}
 use Rattle.ticket.proofs.CheckLaws.{values-of}
+use Rattle.ticket.proofs.KeyLaws.{keyed-lists}
 
 -- ---------------------------------------------------------------- tables by the words
 
@@ -122,8 +116,8 @@ module _ (ws ls : List ℕ) (c : Counts) where
   unfolding cell word-at
   type-entry f d g base n k j other h e = by (ltb k n) refl
     where
-      by : (t : Bool) → ltb k n ≡ t → g (getD (section f ws base n) k d) ≡ pick t (word-at ws (base + k) j) other
-      by true q = rw (section-at f ws base n k d (ltb-true k n q)) (h (base + k))
+      by : (t : Bool) → ltb k n ≡ t → g (getD (section f ws base n) k d) ≡ pick t (word-at ws (row-of base k) j) other
+      by true q = rw (section-at f ws base n k d (ltb-true k n q)) (h (row-of base k))
       by false q = rw (section-past f ws base n k d (ltb-false k n q)) e
 
   pub size-entry : (x : ℕ) → (typeAt (tablesOf ws ls c) x) .size ≡ cell ws 0 (c .types) x 3 0
@@ -390,14 +384,18 @@ module _ (ws ls : List ℕ) (c : Counts) (k : LineKind) (w n : ℕ) where
 -- ---------------------------------------------------------------- numbers behind those in use
 
 module _ (ws u t : List ℕ) (c : Counts) (h : Held ws c) (k : Kept (c .used) u t) where
-  kept-row : (base n : ℕ) → Inside ws (c .used) base n → (i : ℕ) → i < n → numbers t (rowAt ws (base + i)) ≡ numbers u (rowAt ws (base + i))
+  kept-row : (base n : ℕ) → Inside ws (c .used) base n → (i : ℕ) → i < n → numbers t (rowAt ws (row-of base i)) ≡ numbers u (rowAt ws (row-of base i))
   unfolding numbers rowAt
-  kept-row base n s i l = run-kept u t (c .used) (word-at ws (base + i) 1) (word-at ws (base + i) 2) k (s .ends i l)
+  kept-row base n s i l = run-kept u t (c .used) (word-at ws (row-of base i) 1) (word-at ws (row-of base i) 2) k (s .ends i l)
+
+  -- the types' keys too
+  pub keyed-kept : Keyed ws u (c .types) → Keyed ws t (c .types)
+  keyed-kept = keyed-lists ws u t (c .types) (kept-row 0 (c .types) (h .types))
 
   kept-section : {A : Type 0} (f : List ℕ → Row → A) → ((r : Row) → numbers t r ≡ numbers u r → f t r ≡ f u r) → (base n : ℕ) → Inside ws (c .used) base n
       → section (f t) ws base n ≡ section (f u) ws base n
   unfolding section
-  kept-section f g base n s = tab-same (λ i. f t (rowAt ws (base + i))) (λ i. f u (rowAt ws (base + i))) 0 n (λ i l b. g (rowAt ws (base + i)) (kept-row base n s i (omega arith)))
+  kept-section f g base n s = tab-same (λ i. f t (rowAt ws (row-of base i))) (λ i. f u (rowAt ws (row-of base i))) 0 n (λ i l b. g (rowAt ws (row-of base i)) (kept-row base n s i (omega arith)))
 
   pub reading-kept : readingOf ws t c ≡ readingOf ws u c
   unfolding readingOf tablesOf
@@ -450,6 +448,6 @@ module _ (s ws u : List ℕ) (c : Counts) where
           goes = goes-on k (j .goes);
         }
       where
-        goes-on : (k : Stepped) → Goes x c (f .count) k → LineGoes s x c k
-        goes-on (Went d) g = (g .0, omega (arith, g .1, form-half (lineOf s) s u t (c .used) r f a e), g .2)
+        goes-on : (k : Stepped) → Goes x t c (f .count) k → LineGoes s x t c k
+        goes-on (Went d) g = (g .0, g .1, omega (arith, g .2, form-half (lineOf s) s u t (c .used) r f a e), g .3)
         goes-on (Turned m) g = tt

@@ -2,7 +2,7 @@
 use mathlib.Core.Path.{_≡_}
 use Prim.Native.Nat.{ℕ, zero, suc, _+_, _-_, _*_, _≤_}
 use Prim.Native.String.{String}
-use mathlib.Core.Bool.{Bool, true, false}
+use mathlib.Core.Bool.{Bool}
 use mathlib.Core.List.{List, [], _∷_}
 use mathlib.Core.Option.{Option, none, some}
 use lib.Dec.{eqb, leb}
@@ -41,12 +41,6 @@ use Rattle.spec.specs.Forms.{
   n-line,
   Line,
   Kind,
-  kF,
-  kT,
-  kS,
-  kV,
-  kG,
-  kP,
   kN,
   kind-rules,
 }
@@ -132,6 +126,10 @@ formArg f ls used = argAt (classAt (f .kind) (f .word)) (numberAt ls used)
 
 unfoldable pub argsOf : Form → List ℕ → ℕ → List Arg
 argsOf f ls used = tab (formArg f ls used) 0 (f .count)
+
+-- n numbers of one class
+unfoldable pub classed : Field → List ℕ → ℕ → ℕ → List Arg
+classed c ls from n = tab (argAt (λ i. c) (numberAt ls from)) 0 n
 
 unfoldable pub lineFrom : Form → List ℕ → ℕ → Line
 lineFrom f ls used = record { head = headOf (f .kind) (f .word); args = argsOf f ls used }

@@ -1,12 +1,13 @@
 -- A reading with one line more, from the line's numbers and what is known of it.
-use Prim.Native.Nat.{ℕ, suc, _+_, _*_, _≤_, _<_}
+use Prim.Native.Nat.{ℕ, suc, _+_}
 use mathlib.Core.Path.{_≡_}
 use mathlib.Core.List.{List, [], _∷_, _++_}
 use Rattle.tables.specs.Tables.{run, type-word-by, place-word-by, node-word-by}
-use Rattle.spec.specs.Ticket.{TypeLine, PlaceLine, NodeLine, Tables, arg}
+use Rattle.spec.specs.Ticket.{Tables, arg}
 use Rattle.spec.specs.Read.{Reading, rank, storage-line, placed-line, behind-type, new-used}
 use Rattle.ticket.specs.Classes.{headOf}
 use Rattle.ticket.specs.Rows.{readingOf, Held}
+use Rattle.ticket.specs.Keys.{Keyed}
 use Rattle.ticket.specs.declared.LineKind.{LineKind}
 use Rattle.ticket.specs.declared.LineKind.the-variants.{Functions, Types, Storages, Variables, Statics, Places, Nodes}
 use Rattle.tables.specs.declared.Counts.{Counts}
@@ -43,5 +44,7 @@ grown R k w xs e =
 pub record Added (u t ls : List ℕ) (c : Counts) (k : LineKind) (w n : ℕ) (e : Extent) (r : Counts) : Type 0 where
   pub reading : readingOf t ls r ≡ grown (readingOf u ls c) k w (run ls (c .used) n) e
   pub held : Held t r
+  -- keys of types that were there are there, and so is a new type's
+  pub keyed : Keyed u ls (c .types) → Keyed t ls (r .types)
   pub used : r .used ≡ c .used + n
   pub lines : r .lines ≡ c .lines + 1

@@ -1,17 +1,18 @@
 -- A line judged by the words, and what is then kept.
-use Prim.Native.Nat.{ℕ, zero, suc, _+_, _*_, _≤_, _<_}
+use Prim.Native.Nat.{ℕ, zero, suc, _+_, _*_, _≤_}
 use mathlib.Core.Path.{_≡_}
-use mathlib.Core.Bool.{Bool, true, false, not, _&&_}
-use mathlib.Core.List.{List, [], _∷_, _++_}
+use mathlib.Core.Bool.{Bool, true, not, _&&_}
+use mathlib.Core.List.{List}
 use mathlib.Core.Option.{Option, none, some}
 use lib.Dec.{eqb, leb}
-use lib.ListN.{length, getD}
+use lib.ListN.{length}
 use Rattle.tables.specs.Tables.{pick, run, cell, type-word-by}
 use Rattle.spec.specs.Limits.{depth-limit, type-depth-limit, size-sum-limit, weight-sum-limit}
 use Rattle.spec.specs.Ticket.{arg, type-size-by, weight-by}
 use Rattle.spec.specs.Read.{Reading, Step, stop, go, alike, type-number, once, mark}
 use Rattle.ticket.specs.Classes.{argsOf}
 use Rattle.ticket.specs.Rows.{section, typeRow, usedOf, readingOf, Held}
+use Rattle.ticket.specs.Keys.{Keyed}
 use Rattle.ticket.specs.Steps.{Measure, measured, deepestIn}
 use Rattle.ticket.specs.Grown.{grown}
 use Rattle.ticket.specs.declared.LineKind.{LineKind}
@@ -128,19 +129,19 @@ stepOf t ls (Went c) = go (readingOf t ls c)
 stepOf t ls (Turned n) = stop n
 
 -- what is kept where reading goes on: n numbers more
-abbrev pub Goes : List ℕ → Counts → ℕ → Stepped → Type 0
-Goes t c n (Went r) = Held t r × (r .used ≡ c .used + n) × (r .lines ≡ c .lines + 1)
-Goes t c n (Turned m) = Unit {0}
+abbrev pub Goes : List ℕ → List ℕ → Counts → ℕ → Stepped → Type 0
+Goes t ls c n (Went r) = Held t r × Keyed t ls (r .types) × (r .used ≡ c .used + n) × (r .lines ≡ c .lines + 1)
+Goes t ls c n (Turned m) = Unit {0}
 
 pub record Judged (s : Step) (t ls : List ℕ) (c : Counts) (f : Form) (r : Stepped) : Type 0 where
   pub answer : stepOf t ls r ≡ s
-  pub goes : Goes t c (f .count) r
+  pub goes : Goes t ls c (f .count) r
 
 -- what is kept behind a line s: its numbers take at most half of it
-abbrev pub LineGoes : List ℕ → List ℕ → Counts → Stepped → Type 0
-LineGoes s t c (Went r) = Held t r × (r .used * 2 ≤ c .used * 2 + length s) × (r .lines ≡ c .lines + 1)
-LineGoes s t c (Turned m) = Unit {0}
+abbrev pub LineGoes : List ℕ → List ℕ → List ℕ → Counts → Stepped → Type 0
+LineGoes s t ls c (Went r) = Held t r × Keyed t ls (r .types) × (r .used * 2 ≤ c .used * 2 + length s) × (r .lines ≡ c .lines + 1)
+LineGoes s t ls c (Turned m) = Unit {0}
 
 pub record StepAt (o : Step) (s t ls : List ℕ) (c : Counts) (r : Stepped) : Type 0 where
   pub answer : stepOf t ls r ≡ o
-  pub goes : LineGoes s t c r
+  pub goes : LineGoes s t ls c r

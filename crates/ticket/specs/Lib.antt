@@ -1,5 +1,6 @@
 pub mod Classes
 pub mod Rows
+pub mod Keys
 pub mod Steps
 pub mod Grown
 pub mod Judged

@@ -1,13 +1,12 @@
 -- The rows that the code's words hold, and the tables read off them row by row. crates/tables/specs/Tables.antt has the layout; here the
--- nodes' rows stand in one slice with all others, behind the places'.
-use Prim.Native.Nat.{ℕ, zero, suc, _+_, _*_, _≤_, _<_}
+-- nodes' rows stand in one slice with all others, behind the places', and the words behind all rows are those of specs/Keys.antt.
+use Prim.Native.Nat.{ℕ, _+_, _*_, _≤_, _<_}
 use mathlib.Core.Path.{_≡_}
 use mathlib.Core.Bool.{Bool, true, false, not}
-use mathlib.Core.List.{List, [], _∷_, _++_}
-use mathlib.Core.Option.{Option, none, some}
+use mathlib.Core.List.{List}
 use lib.Dec.{eqb}
 use lib.ListN.{length, getD, set}
-use Rattle.tables.specs.Tables.{tab, run, storages-from, variables-from, statics-from, places-from, type-word-by, place-word-by, node-word-by}
+use Rattle.tables.specs.Tables.{tab, row-of, run, storages-from, variables-from, statics-from, places-from, type-word-by, place-word-by, node-word-by}
 use Rattle.spec.specs.Limits.{type-lines, storage-lines, variable-lines, static-lines, place-lines, node-lines}
 use Rattle.spec.specs.Ticket.{TypeLine, StorageLine, PlacedLine, PlaceLine, NodeLine, Tables, arg}
 use Rattle.spec.specs.Read.{Used, Reading, storage-line, placed-line, behind-type}
@@ -28,17 +27,13 @@ pub record Row : Type 0 where
 unfoldable pub rowAt : List ℕ → ℕ → Row
 rowAt ws r = record { word = word-at ws r 0; start = word-at ws r 1; count = word-at ws r 2; third = word-at ws r 3; fourth = word-at ws r 4; fifth = word-at ws r 5 }
 
--- n rows from `base` on, as f reads them
+-- n rows of a kind, as f reads them
 unfoldable pub section : {A : Type 0} → (Row → A) → List ℕ → ℕ → ℕ → List A
-section f ws base n = tab (λ k. f (rowAt ws (base + k))) 0 n
+section f ws base n = tab (λ k. f (rowAt ws (row-of base k))) 0 n
 
--- the nodes stand behind the places
+-- the last kind
 abbrev pub nodes-from : ℕ
-nodes-from = places-from + place-lines
-
--- the words that `rows` needs
-abbrev pub rows-length : ℕ
-rows-length = (nodes-from + node-lines) * 6
+nodes-from = 5
 
 unfoldable pub numbers : List ℕ → Row → List ℕ
 numbers ls r = run ls (r .start) (r .count)
@@ -97,9 +92,27 @@ pub record Few (c : Counts) : Type 0 where
   pub places : c .places ≤ place-lines
   pub nodes : c .nodes ≤ node-lines
 
+-- the words that hold a row more than the most lines of each kind: 36 for one row of each and 4 for keys, 257 times
+abbrev pub rows-length : ℕ
+rows-length = 10280
+
+-- n words have a row more for each kind, and the words for keys behind them
+pub record Roomy (n : ℕ) (c : Counts) : Type 0 where
+  pub types : c .types * 40 + 40 ≤ n
+  pub storages : c .storages * 40 + 40 ≤ n
+  pub variables : c .variables * 40 + 40 ≤ n
+  pub statics : c .statics * 40 + 40 ≤ n
+  pub places : c .places * 40 + 40 ≤ n
+  pub nodes : c .nodes * 40 + 40 ≤ n
+
+-- whether they have it; where not, they are too few for the most lines
+pub record RoomIs (n : ℕ) (c : Counts) (r : Bool) : Type 0 where
+  pub enough : r ≡ true → Roomy n c
+  pub short : r ≡ false → Few c → n < rows-length
+
 -- the numbers of n rows end within the first `used` of the lists
 pub record Inside (ws : List ℕ) (used base n : ℕ) : Type 0 where
-  pub ends : (k : ℕ) → k < n → word-at ws (base + k) 1 + word-at ws (base + k) 2 ≤ used
+  pub ends : (k : ℕ) → k < n → word-at ws (row-of base k) 1 + word-at ws (row-of base k) 2 ≤ used
 
 -- what reading keeps of the words
 pub record Held (ws : List ℕ) (c : Counts) : Type 0 where
@@ -115,6 +128,7 @@ pub record Held (ws : List ℕ) (c : Counts) : Type 0 where
 pub record RowPut (u t : List ℕ) (r : ℕ) (x : Row) : Type 0 where
   pub here : rowAt t r ≡ x
   pub others : (q : ℕ) → (q ≡ r → ⊥) → rowAt t q ≡ rowAt u q
+  pub long : length t ≡ length u
 
 abbrev pub withMark : Row → Row
 withMark r = record { word = r .word; start = r .start; count = r .count; third = r .third; fourth = r .fourth; fifth = 1 }
@@ -124,4 +138,4 @@ pub record MarkAt (u t : List ℕ) (base n k : ℕ) (r : Bool) : Type 0 where
   pub answer : not r ≡ getD (section marked u base n) k false
   pub marks : section marked t base n ≡ set (section marked u base n) k true
   pub cells : (q j : ℕ) → (j ≡ 5 → ⊥) → j < 6 → word-at t q j ≡ word-at u q j
-  pub others : (q : ℕ) → (k < n → q ≡ base + k → ⊥) → rowAt t q ≡ rowAt u q
+  pub others : (q : ℕ) → (k < n → q ≡ row-of base k → ⊥) → rowAt t q ≡ rowAt u q

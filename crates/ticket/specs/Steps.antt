@@ -1,12 +1,11 @@
 -- The code's answers to each test, as those of `Read`.
-use Prim.Native.Nat.{ℕ, zero, suc, _+_, _*_, _≤_, _<_, max}
+use Prim.Native.Nat.{ℕ, _+_, _<_, max}
 use mathlib.Core.Path.{_≡_}
 use mathlib.Core.Bool.{Bool, true, false, not, _&&_}
-use mathlib.Core.List.{List, [], _∷_, _++_}
+use mathlib.Core.List.{List, [], _∷_}
 use mathlib.Core.Option.{Option, none, some}
 use lib.Dec.{eqb, leb, ltb}
-use lib.ListN.{length, getD, set}
-use Rattle.tables.specs.Tables.{tab, pick, run, places-from, cell}
+use Rattle.tables.specs.Tables.{pick, row-of, run, places-from, cell}
 use Rattle.spec.specs.Limits.{
   type-lines,
   storage-lines,
@@ -19,24 +18,9 @@ use Rattle.spec.specs.Limits.{
 }
 use Rattle.spec.specs.Text.{same}
 use Rattle.spec.specs.Ticket.{TypeLine}
-use Rattle.spec.specs.Forms.{Field, between, float-width, type-part, type, storage, place, node, Arg, Line}
-use Rattle.spec.specs.Read.{
-  Used,
-  Reading,
-  all,
-  rank,
-  in-order,
-  in-range,
-  fields-fit,
-  used-of,
-  mark-of,
-  once,
-  mark,
-  type-number,
-  Test,
-  test,
-}
-use Rattle.ticket.specs.Classes.{headOf, classAt, argsOf}
+use Rattle.spec.specs.Forms.{Field, between, float-width, type-part, type, storage, place, node, Arg}
+use Rattle.spec.specs.Read.{all, rank, in-order, in-range, fields-fit, used-of, mark-of, once, mark, type-number, Test, test}
+use Rattle.ticket.specs.Classes.{headOf, argsOf}
 use Rattle.ticket.specs.Rows.{word-at, rowAt, usedOf, nodes-from}
 use Rattle.ticket.specs.declared.LineKind.{LineKind}
 use Rattle.ticket.specs.declared.LineKind.the-variants.{Functions, Types, Storages, Variables, Statics, Places, Nodes}
@@ -46,6 +30,8 @@ use Rattle.ticket.specs.declared.Verdict.{Verdict}
 use Rattle.ticket.specs.declared.Verdict.the-variants.{Passed, Refused}
 use Rattle.ticket.specs.declared.Capped.{Capped}
 use Rattle.ticket.specs.declared.Capped.the-variants.{Within, Over}
+use Rattle.ticket.specs.declared.Marked.{Marked}
+use Rattle.ticket.specs.declared.Marked.the-variants.{Deep, Twice}
 use Rattle.ticket.specs.declared.Measured.{Measured}
 use Rattle.ticket.specs.declared.Measured.the-variants.{Fits, TooLarge}
 
@@ -103,7 +89,7 @@ early-tests f ls c =
 -- words that differ in the marks of places and nodes alone
 pub record Alike (u t : List ℕ) : Type 0 where
   pub cells : (q j : ℕ) → (j ≡ 5 → ⊥) → j < 6 → word-at t q j ≡ word-at u q j
-  pub rows : (q : ℕ) → q < places-from → rowAt t q ≡ rowAt u q
+  pub rows : (base k : ℕ) → base < places-from → rowAt t (row-of base k) ≡ rowAt u (row-of base k)
 
 -- u with a number's line marked, where it was not, is t
 pub record Marking (u t : List ℕ) (c : Counts) (f : Field) (x : ℕ) (r : Bool) : Type 0 where
@@ -115,6 +101,23 @@ pub record MarkedAll (u t : List ℕ) (c : Counts) (xa : List Arg) (r : Bool) : 
   pub answer : r ≡ once xa (usedOf u c)
   pub marks : r ≡ true → usedOf t c ≡ mark xa (usedOf u c)
   pub alike : Alike u t
+
+-- the same with the depth, from number to number
+abbrev pub onceOf : Marked → Bool
+onceOf (Deep d) = true
+onceOf Twice = false
+
+pub record MarkedOne (u t : List ℕ) (c : Counts) (f : Field) (x most : ℕ) (r : Marked) : Type 0 where
+  pub marking : Marking u t c f x (onceOf r)
+  pub deep : (d : ℕ) → r ≡ Deep d → d ≡ max most (depthIn t c f x)
+
+pub record MarkedRun (u t : List ℕ) (c : Counts) (xa : List Arg) (most : ℕ) (r : Marked) : Type 0 where
+  pub whole : MarkedAll u t c xa (onceOf r)
+  pub deep : (d : ℕ) → r ≡ Deep d → d ≡ max most (deepestIn t c xa)
+
+pub record MarkedDeep (u t : List ℕ) (c : Counts) (xa : List Arg) (r : Marked) : Type 0 where
+  pub whole : MarkedAll u t c xa (onceOf r)
+  pub deep : (d : ℕ) → r ≡ Deep d → d ≡ deepestIn t c xa
 
 -- ---------------------------------------------------------------- measures
 

@@ -3,13 +3,14 @@ ghost use mathlib.Core.Path.{_≡_};
 ghost use mathlib.Core.Bool.{true};
 ghost use Prim.Native.Nat.{_+_, _*_, _≤_, _<_};
 ghost use lib.ListN.{length};
-ghost use Rattle.tables.specs.Tables.{run};
-ghost use Rattle.ticket.specs.Rows.{Held, rows-length};
+ghost use Rattle.ticket.specs.Rows.{Held, Roomy};
 ghost use Rattle.ticket.specs.Steps.{fewOf};
 ghost use Rattle.ticket.specs.Grown.{Added};
 use crate::Extent;
 use crate::Form;
 use crate::LineKind;
+use crate::keys::note;
+use crate::measures::type_number;
 use crate::rows::put_row;
 use tables::Counts;
 use tables::arg;
@@ -46,12 +47,13 @@ fn add_type(
     n: usize,
     e: Extent,
 ) -> Counts
-    requires { ⌜ Held (now rows) counts × (rows-length ≤ length (now rows)) × (counts .used + n ≤ length (now lists)) × (fewOf LineKind.Types counts ≡ true) × (counts .lines < 65536) ⌝ }
+    requires { ⌜ Held (now rows) counts × Roomy (length (now rows)) counts × (counts .used + n ≤ length (now lists)) × (fewOf LineKind.Types counts ≡ true) × (counts .lines < 65536) ⌝ }
     ensures { λ r. ⌜ Added (now (rows .entry)) (now (rows .exit)) (now (lists .entry)) counts LineKind.Types word n e r ⌝ }
 {
+    note(rows, lists, type_number(word), counts.used, n);
     put_row(
         rows,
-        counts.types,
+        counts.types * 6,
         word,
         counts.used,
         n,
@@ -84,10 +86,10 @@ fn add_storage(
     n: usize,
     e: Extent,
 ) -> Counts
-    requires { ⌜ Held (now rows) counts × (rows-length ≤ length (now rows)) × (counts .used + n ≤ length (now lists)) × (fewOf LineKind.Storages counts ≡ true) × (counts .lines < 65536) ⌝ }
+    requires { ⌜ Held (now rows) counts × Roomy (length (now rows)) counts × (counts .used + n ≤ length (now lists)) × (fewOf LineKind.Storages counts ≡ true) × (counts .lines < 65536) ⌝ }
     ensures { λ r. ⌜ Added (now (rows .entry)) (now (rows .exit)) (now (lists .entry)) counts LineKind.Storages word n e r ⌝ }
 {
-    put_row(rows, 256 + counts.storages, word, counts.used, n, 0, 0, 0);
+    put_row(rows, 1 + counts.storages * 6, word, counts.used, n, 0, 0, 0);
     Counts {
         function: counts.function,
         next: counts.next,
@@ -113,10 +115,19 @@ fn add_variable(
     n: usize,
     e: Extent,
 ) -> Counts
-    requires { ⌜ Held (now rows) counts × (rows-length ≤ length (now rows)) × (counts .used + n ≤ length (now lists)) × (fewOf LineKind.Variables counts ≡ true) × (counts .lines < 65536) ⌝ }
+    requires { ⌜ Held (now rows) counts × Roomy (length (now rows)) counts × (counts .used + n ≤ length (now lists)) × (fewOf LineKind.Variables counts ≡ true) × (counts .lines < 65536) ⌝ }
     ensures { λ r. ⌜ Added (now (rows .entry)) (now (rows .exit)) (now (lists .entry)) counts LineKind.Variables word n e r ⌝ }
 {
-    put_row(rows, 512 + counts.variables, word, counts.used, n, 0, 0, 0);
+    put_row(
+        rows,
+        2 + counts.variables * 6,
+        word,
+        counts.used,
+        n,
+        0,
+        0,
+        0,
+    );
     Counts {
         function: counts.function,
         next: counts.next,
@@ -142,10 +153,10 @@ fn add_static(
     n: usize,
     e: Extent,
 ) -> Counts
-    requires { ⌜ Held (now rows) counts × (rows-length ≤ length (now rows)) × (counts .used + n ≤ length (now lists)) × (fewOf LineKind.Statics counts ≡ true) × (counts .lines < 65536) ⌝ }
+    requires { ⌜ Held (now rows) counts × Roomy (length (now rows)) counts × (counts .used + n ≤ length (now lists)) × (fewOf LineKind.Statics counts ≡ true) × (counts .lines < 65536) ⌝ }
     ensures { λ r. ⌜ Added (now (rows .entry)) (now (rows .exit)) (now (lists .entry)) counts LineKind.Statics word n e r ⌝ }
 {
-    put_row(rows, 576 + counts.statics, word, counts.used, n, 0, 0, 0);
+    put_row(rows, 3 + counts.statics * 6, word, counts.used, n, 0, 0, 0);
     Counts {
         function: counts.function,
         next: counts.next,
@@ -171,12 +182,12 @@ fn add_place(
     n: usize,
     e: Extent,
 ) -> Counts
-    requires { ⌜ Held (now rows) counts × (rows-length ≤ length (now rows)) × (counts .used + n ≤ length (now lists)) × (fewOf LineKind.Places counts ≡ true) × (counts .lines < 65536) ⌝ }
+    requires { ⌜ Held (now rows) counts × Roomy (length (now rows)) counts × (counts .used + n ≤ length (now lists)) × (fewOf LineKind.Places counts ≡ true) × (counts .lines < 65536) ⌝ }
     ensures { λ r. ⌜ Added (now (rows .entry)) (now (rows .exit)) (now (lists .entry)) counts LineKind.Places word n e r ⌝ }
 {
     put_row(
         rows,
-        640 + counts.places,
+        4 + counts.places * 6,
         word,
         counts.used,
         n,
@@ -209,12 +220,12 @@ fn add_node(
     n: usize,
     e: Extent,
 ) -> Counts
-    requires { ⌜ Held (now rows) counts × (rows-length ≤ length (now rows)) × (counts .used + n ≤ length (now lists)) × (fewOf LineKind.Nodes counts ≡ true) × (counts .lines < 65536) ⌝ }
+    requires { ⌜ Held (now rows) counts × Roomy (length (now rows)) counts × (counts .used + n ≤ length (now lists)) × (fewOf LineKind.Nodes counts ≡ true) × (counts .lines < 65536) ⌝ }
     ensures { λ r. ⌜ Added (now (rows .entry)) (now (rows .exit)) (now (lists .entry)) counts LineKind.Nodes word n e r ⌝ }
 {
     put_row(
         rows,
-        896 + counts.nodes,
+        5 + counts.nodes * 6,
         word,
         counts.used,
         n,
@@ -240,7 +251,7 @@ fn add_node(
 }
 
 pub fn add(form: Form, rows: &mut [u64], lists: &[u64], counts: Counts, e: Extent) -> Counts
-    requires { ⌜ Held (now rows) counts × (rows-length ≤ length (now rows)) × (counts .used + form .count ≤ length (now lists)) × (fewOf (form .kind) counts ≡ true) × (counts .lines < 65536) ⌝ }
+    requires { ⌜ Held (now rows) counts × Roomy (length (now rows)) counts × (counts .used + form .count ≤ length (now lists)) × (fewOf (form .kind) counts ≡ true) × (counts .lines < 65536) ⌝ }
     ensures { λ r. ⌜ Added (now (rows .entry)) (now (rows .exit)) (now (lists .entry)) counts (form .kind) (form .word) (form .count) e r ⌝ }
 {
     let kind = form.kind;

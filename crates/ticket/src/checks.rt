@@ -1,39 +1,20 @@
 // The tests of a line, each for one refusal of document 01's table.
 ghost use mathlib.Core.Path.{_≡_};
-ghost use mathlib.Core.List.{[], _∷_};
 ghost use mathlib.Core.Bool.{_&&_, _||_};
-ghost use Prim.Native.Nat.{_+_, _*_, _≤_, _<_, max};
-ghost use lib.ListN.{length, getD};
+ghost use Prim.Native.Nat.{_+_, _≤_, _<_, max};
+ghost use lib.ListN.{length};
 ghost use Rattle.tables.specs.Tables.{run};
-ghost use Rattle.spec.specs.Read.{
-  all,
-  rank as rankOf,
-  in-order,
-  few-enough,
-  in-range-of,
-  in-range,
-  length-fits,
-  bit-fits,
-  fields-fit,
-  earlier-of,
-  earlier as earlierOf,
-  used-of,
-  mark-of,
-  depth-of-field,
-  deepest as deepestOf,
-  once as onceOf,
-  mark as markOf,
-  first-failed,
-  test,
-};
-ghost use Rattle.ticket.specs.Classes.{fieldOf, classAt, headOf, argsOf};
-ghost use Rattle.ticket.specs.Rows.{Few, rows-length, tablesOf, usedOf, readingOf};
-ghost use Rattle.ticket.specs.Steps.{verdictOf, fewOf, earlierIn, earlierArg, depthIn, deepestIn, Marking, MarkedAll, early-tests};
+ghost use Rattle.spec.specs.Read.{all, rank as rankOf, in-order, in-range-of, in-range, length-fits, bit-fits, fields-fit, first-failed};
+ghost use Rattle.ticket.specs.Classes.{fieldOf, classAt, headOf, argsOf, classed};
+ghost use Rattle.ticket.specs.Rows.{Few, Roomy};
+ghost use Rattle.ticket.specs.Steps.{verdictOf, fewOf, earlierIn, earlierArg, depthIn, Marking, MarkedOne, MarkedRun, MarkedDeep, early-tests};
 ghost use Rattle.spec.specs.Ticket.{arg as argOf};
 ghost use lib.Dec.{eqb, leb};
 use crate::Class;
 use crate::Form;
 use crate::LineKind;
+use crate::Marked;
+use crate::Seen;
 use crate::Verdict;
 use crate::forms::class_at;
 use crate::rows::mark;
@@ -83,21 +64,7 @@ fn few(kind: LineKind, counts: Counts) -> bool
     }
 }
 
-// 3: ranges.
-fn in_range(class: Class, x: u64) -> bool
-    ensures { λ r. ⌜ r ≡ in-range-of (fieldOf class) x ⌝ }
-{
-    match class {
-        Class::Between(least, greatest) => between(least, greatest, x),
-        Class::FloatWidth => float_width(x),
-        Class::TypePart => true,
-        Class::TypeLine => true,
-        Class::StorageLine => true,
-        Class::PlaceLine => true,
-        Class::NodeLine => true,
-    }
-}
-
+// 3: ranges, and 4: earlier lines.
 fn between(least: u64, greatest: u64, x: u64) -> bool
     ensures { λ r. ⌜ r ≡ (leb least x && leb x greatest) ⌝ }
 {
@@ -116,28 +83,93 @@ fn float_width(x: u64) -> bool
     x == 64
 }
 
-fn range_at(form: Form, i: usize, x: u64) -> bool
-    ensures { λ r. ⌜ r ≡ in-range-of (classAt (form .kind) (form .word) i) x ⌝ }
+fn both(a: bool, b: bool) -> bool
+    ensures { λ r. ⌜ r ≡ (a && b) ⌝ }
+{
+    if a { b } else { false }
+}
+
+fn ranged(ok: bool, seen: Seen) -> Seen
+    ensures { λ r. ⌜ (r .ranged ≡ (ok && seen .ranged)) × (r .earlier ≡ seen .earlier) ⌝ }
+{
+    let all = seen.ranged;
+    Seen {
+        ranged: both(ok, all),
+        earlier: seen.earlier,
+    }
+}
+
+fn earlier(ok: bool, seen: Seen) -> Seen
+    ensures { λ r. ⌜ (r .ranged ≡ seen .ranged) × (r .earlier ≡ (ok && seen .earlier)) ⌝ }
+{
+    let all = seen.earlier;
+    Seen {
+        ranged: seen.ranged,
+        earlier: both(ok, all),
+    }
+}
+
+// One number more.
+fn look(class: Class, counts: Counts, x: u64, seen: Seen) -> Seen
+    ensures { λ r. ⌜ (r .ranged ≡ (in-range-of (fieldOf class) x && seen .ranged)) × (r .earlier ≡ (earlierIn counts (fieldOf class) x && seen .earlier)) ⌝ }
+{
+    match class {
+        Class::Between(least, greatest) => ranged(between(least, greatest, x), seen),
+        Class::FloatWidth => ranged(float_width(x), seen),
+        Class::TypePart => earlier(x < counts.types, seen),
+        Class::TypeLine => earlier(x < counts.types, seen),
+        Class::StorageLine => earlier(x < counts.storages, seen),
+        Class::PlaceLine => earlier(x < counts.places, seen),
+        Class::NodeLine => earlier(x < counts.nodes, seen),
+    }
+}
+
+fn look_at(form: Form, counts: Counts, i: usize, x: u64, seen: Seen) -> Seen
+    ensures { λ r. ⌜ (r .ranged ≡ (in-range-of (classAt (form .kind) (form .word) i) x && seen .ranged)) × (r .earlier ≡ (earlierIn counts (classAt (form .kind) (form .word) i) x && seen .earlier)) ⌝ }
 {
     let kind = form.kind;
     let class = class_at(kind, form.word, i as u64);
-    in_range(class, x)
+    look(class, counts, x, seen)
 }
 
-fn ranges(form: Form, lists: &[u64], used: usize) -> bool
-    requires { ⌜ used + form .count ≤ length (now lists) ⌝ }
-    ensures { λ r. ⌜ r ≡ all in-range (argsOf form (now (lists .entry)) used) ⌝ }
+// Numbers of one class.
+fn look_run(class: Class, lists: &[u64], from: usize, n: usize, counts: Counts, first: Seen) -> Seen
+    requires { ⌜ from + n ≤ length (now lists) ⌝ }
+    ensures { λ r. ⌜ (r .ranged ≡ (all in-range (classed (fieldOf class) (now (lists .entry)) from n) && first .ranged))
+        × (r .earlier ≡ (all (earlierArg counts) (classed (fieldOf class) (now (lists .entry)) from n) && first .earlier)) ⌝ }
 {
-    let n = form.count;
+    let mut seen = first;
     let mut i: usize = 0;
     while i < n {
-        let at = used + i;
-        if !range_at(form, i, lists[at]) {
-            return false;
-        }
+        let at = from + i;
+        seen = look(class, counts, lists[at], seen);
         i += 1;
     }
-    true
+    seen
+}
+
+// From field 4 on all are of one class.
+fn look_over(form: Form, lists: &[u64], used: usize, counts: Counts) -> Seen
+    requires { ⌜ used + form .count ≤ length (now lists) ⌝ }
+    ensures { λ r. ⌜ (r .ranged ≡ all in-range (argsOf form (now (lists .entry)) used)) × (r .earlier ≡ all (earlierArg counts) (argsOf form (now (lists .entry)) used)) ⌝ }
+{
+    let kind = form.kind;
+    let n = form.count;
+    let mut seen = Seen {
+        ranged: true,
+        earlier: true,
+    };
+    let mut i: usize = 0;
+    while i < n {
+        if i == 4 {
+            let class = class_at(kind, form.word, 4);
+            return look_run(class, lists, used + 4, n - 4, counts, seen);
+        }
+        let at = used + i;
+        seen = look_at(form, counts, i, lists[at], seen);
+        i += 1;
+    }
+    seen
 }
 
 // A storage's LENGTH by its KIND, and BIT by TYPE.
@@ -193,53 +225,14 @@ fn fields_fit(form: Form, lists: &[u64], used: usize) -> bool
     }
 }
 
-fn fits(form: Form, lists: &[u64], used: usize) -> bool
+fn fits(form: Form, lists: &[u64], used: usize, ranged: bool) -> bool
     requires { ⌜ used + form .count ≤ length (now lists) ⌝ }
-    ensures { λ r. ⌜ r ≡ (all in-range (argsOf form (now (lists .entry)) used) && fields-fit (headOf (form .kind) (form .word)) (run (now (lists .entry)) used (form .count))) ⌝ }
+    ensures { λ r. ⌜ r ≡ (ranged && fields-fit (headOf (form .kind) (form .word)) (run (now (lists .entry)) used (form .count))) ⌝ }
 {
-    if !ranges(form, lists, used) {
+    if !ranged {
         return false;
     }
     fields_fit(form, lists, used)
-}
-
-// 4: earlier lines.
-fn earlier(class: Class, counts: Counts, x: u64) -> bool
-    ensures { λ r. ⌜ r ≡ earlierIn counts (fieldOf class) x ⌝ }
-{
-    match class {
-        Class::Between(_, _) => true,
-        Class::FloatWidth => true,
-        Class::TypePart => x < counts.types,
-        Class::TypeLine => x < counts.types,
-        Class::StorageLine => x < counts.storages,
-        Class::PlaceLine => x < counts.places,
-        Class::NodeLine => x < counts.nodes,
-    }
-}
-
-fn earlier_at(form: Form, counts: Counts, i: usize, x: u64) -> bool
-    ensures { λ r. ⌜ r ≡ earlierIn counts (classAt (form .kind) (form .word) i) x ⌝ }
-{
-    let kind = form.kind;
-    let class = class_at(kind, form.word, i as u64);
-    earlier(class, counts, x)
-}
-
-fn all_earlier(form: Form, lists: &[u64], used: usize, counts: Counts) -> bool
-    requires { ⌜ used + form .count ≤ length (now lists) ⌝ }
-    ensures { λ r. ⌜ r ≡ all (earlierArg counts) (argsOf form (now (lists .entry)) used) ⌝ }
-{
-    let n = form.count;
-    let mut i: usize = 0;
-    while i < n {
-        let at = used + i;
-        if !earlier_at(form, counts, i, lists[at]) {
-            return false;
-        }
-        i += 1;
-    }
-    true
 }
 
 // 9: depth.
@@ -253,17 +246,15 @@ fn depth(class: Class, rows: &[u64], counts: Counts, x: u64) -> u64
         Class::TypePart => cell(rows, 0, counts.types, x, 5, 1),
         Class::TypeLine => 0,
         Class::StorageLine => 0,
-        Class::PlaceLine => cell(rows, 640, counts.places, x, 4, 0),
-        Class::NodeLine => cell(rows, 896, counts.nodes, x, 4, 0),
+        Class::PlaceLine => cell(rows, 4, counts.places, x, 4, 0),
+        Class::NodeLine => cell(rows, 5, counts.nodes, x, 4, 0),
     }
 }
 
-fn deeper(form: Form, rows: &[u64], counts: Counts, i: usize, x: u64, most: u64) -> u64
+fn deeper(class: Class, rows: &[u64], counts: Counts, x: u64, most: u64) -> u64
     requires { ⌜ Few counts ⌝ }
-    ensures { λ r. ⌜ r ≡ max most (depthIn (now (rows .entry)) counts (classAt (form .kind) (form .word) i) x) ⌝ }
+    ensures { λ r. ⌜ r ≡ max most (depthIn (now (rows .entry)) counts (fieldOf class) x) ⌝ }
 {
-    let kind = form.kind;
-    let class = class_at(kind, form.word, i as u64);
     let d = depth(class, rows, counts, x);
     if most < d {
         return d;
@@ -271,24 +262,9 @@ fn deeper(form: Form, rows: &[u64], counts: Counts, i: usize, x: u64, most: u64)
     most
 }
 
-pub fn deepest(form: Form, rows: &[u64], lists: &[u64], used: usize, counts: Counts) -> u64
-    requires { ⌜ (used + form .count ≤ length (now lists)) × Few counts ⌝ }
-    ensures { λ r. ⌜ r ≡ deepestIn (now (rows .entry)) counts (argsOf form (now (lists .entry)) used) ⌝ }
-{
-    let n = form.count;
-    let mut most: u64 = 0;
-    let mut i: usize = 0;
-    while i < n {
-        let at = used + i;
-        most = deeper(form, rows, counts, i, lists[at], most);
-        i += 1;
-    }
-    most
-}
-
 // 7: each line is referred to once.
 fn mark_class(class: Class, rows: &mut [u64], counts: Counts, x: u64) -> bool
-    requires { ⌜ Few counts × (rows-length ≤ length (now rows)) ⌝ }
+    requires { ⌜ Few counts × Roomy (length (now rows)) counts ⌝ }
     ensures { λ r. ⌜ Marking (now (rows .entry)) (now (rows .exit)) counts (fieldOf class) x r ⌝ }
 {
     match class {
@@ -297,35 +273,81 @@ fn mark_class(class: Class, rows: &mut [u64], counts: Counts, x: u64) -> bool
         Class::TypePart => true,
         Class::TypeLine => true,
         Class::StorageLine => true,
-        Class::PlaceLine => mark(rows, 640, counts.places, x),
-        Class::NodeLine => mark(rows, 896, counts.nodes, x),
+        Class::PlaceLine => mark(rows, 4, counts.places, x),
+        Class::NodeLine => mark(rows, 5, counts.nodes, x),
     }
 }
 
-fn mark_at(form: Form, rows: &mut [u64], counts: Counts, i: usize, x: u64) -> bool
-    requires { ⌜ Few counts × (rows-length ≤ length (now rows)) ⌝ }
-    ensures { λ r. ⌜ Marking (now (rows .entry)) (now (rows .exit)) counts (classAt (form .kind) (form .word) i) x r ⌝ }
+// 7 and the depth, a number more.
+fn mark_one(class: Class, rows: &mut [u64], counts: Counts, x: u64, most: u64) -> Marked
+    requires { ⌜ Few counts × Roomy (length (now rows)) counts ⌝ }
+    ensures { λ r. ⌜ MarkedOne (now (rows .entry)) (now (rows .exit)) counts (fieldOf class) x most r ⌝ }
+{
+    if !mark_class(class, rows, counts, x) {
+        return Marked::Twice;
+    }
+    let d = deeper(class, rows, counts, x, most);
+    Marked::Deep(d)
+}
+
+fn mark_at(form: Form, rows: &mut [u64], counts: Counts, i: usize, x: u64, most: u64) -> Marked
+    requires { ⌜ Few counts × Roomy (length (now rows)) counts ⌝ }
+    ensures { λ r. ⌜ MarkedOne (now (rows .entry)) (now (rows .exit)) counts (classAt (form .kind) (form .word) i) x most r ⌝ }
 {
     let kind = form.kind;
     let class = class_at(kind, form.word, i as u64);
-    mark_class(class, rows, counts, x)
+    mark_one(class, rows, counts, x, most)
 }
 
-pub fn once(form: Form, rows: &mut [u64], lists: &[u64], used: usize, counts: Counts) -> bool
-    requires { ⌜ (used + form .count ≤ length (now lists)) × Few counts × (rows-length ≤ length (now rows)) ⌝ }
-    ensures { λ r. ⌜ MarkedAll (now (rows .entry)) (now (rows .exit)) counts (argsOf form (now (lists .entry)) used) r ⌝ }
+// Numbers of one class.
+fn mark_run(
+    class: Class,
+    rows: &mut [u64],
+    lists: &[u64],
+    from: usize,
+    n: usize,
+    counts: Counts,
+    first: u64,
+) -> Marked
+    requires { ⌜ (from + n ≤ length (now lists)) × Few counts × Roomy (length (now rows)) counts ⌝ }
+    ensures { λ r. ⌜ MarkedRun (now (rows .entry)) (now (rows .exit)) counts (classed (fieldOf class) (now (lists .entry)) from n) first r ⌝ }
 {
-    let n = form.count;
+    let mut most = first;
     let mut i: usize = 0;
     while i < n {
-        let at = used + i;
+        let at = from + i;
         let x = lists[at];
-        if !mark_at(form, rows, counts, i, x) {
-            return false;
-        }
+        let Marked::Deep(deep) = mark_one(class, rows, counts, x, most) else {
+            return Marked::Twice;
+        };
+        most = deep;
         i += 1;
     }
-    true
+    Marked::Deep(most)
+}
+
+pub fn mark_all(form: Form, rows: &mut [u64], lists: &[u64], used: usize, counts: Counts) -> Marked
+    requires { ⌜ (used + form .count ≤ length (now lists)) × Few counts × Roomy (length (now rows)) counts ⌝ }
+    ensures { λ r. ⌜ MarkedDeep (now (rows .entry)) (now (rows .exit)) counts (argsOf form (now (lists .entry)) used) r ⌝ }
+{
+    let kind = form.kind;
+    let n = form.count;
+    let mut most: u64 = 0;
+    let mut i: usize = 0;
+    while i < n {
+        if i == 4 {
+            let class = class_at(kind, form.word, 4);
+            return mark_run(class, rows, lists, used + 4, n - 4, counts, most);
+        }
+        let at = used + i;
+        let x = lists[at];
+        let Marked::Deep(d) = mark_at(form, rows, counts, i, x, most) else {
+            return Marked::Twice;
+        };
+        most = d;
+        i += 1;
+    }
+    Marked::Deep(most)
 }
 
 // 2, 8, 3 and 4, in this order.
@@ -341,10 +363,11 @@ pub fn early(form: Form, lists: &[u64], counts: Counts) -> Verdict
     if !few(kind, counts) {
         return Verdict::Refused(8);
     }
-    if !fits(form, lists, used) {
+    let seen = look_over(form, lists, used, counts);
+    if !fits(form, lists, used, seen.ranged) {
         return Verdict::Refused(3);
     }
-    if !all_earlier(form, lists, used, counts) {
+    if !seen.earlier {
         return Verdict::Refused(4);
     }
     Verdict::Passed

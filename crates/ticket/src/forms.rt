@@ -48,26 +48,140 @@ fn class_of(c: u8) -> Class
     }
 }
 
-// The letters of the words' fields i, in the words' order.
+// The letters of a field by the words' numbers; a byte string of them would be copied at each call.
+// Those of a type's field 1 and of a node's field 4 are those of all later fields too.
+fn type_letter_0(word: u64) -> u8
+    ensures { λ r. ⌜ lettered r ≡ classAt LineKind.Types word 0 ⌝ }
+{
+    match word {
+        2 => b'w',
+        3 => b'f',
+        5 => b't',
+        6 => b't',
+        7 => b't',
+        _ => b'l',
+    }
+}
+
+fn type_letter_1(word: u64) -> u8
+    ensures { λ r. ⌜ lettered r ≡ classAt LineKind.Types word 1 ⌝ }
+{
+    match word {
+        6 => b't',
+        7 => b't',
+        _ => b'l',
+    }
+}
+
 fn type_letter(word: u64, i: u64) -> u8
     ensures { λ r. ⌜ lettered r ≡ classAt LineKind.Types word i ⌝ }
 {
     if i == 0 {
-        return letter(b"llwfltttl", word, b'l');
+        return type_letter_0(word);
     }
-    letter(b"llllllttl", word, b'l')
+    type_letter_1(word)
+}
+
+fn place_letter_0(word: u64) -> u8
+    ensures { λ r. ⌜ lettered r ≡ classAt LineKind.Places word 0 ⌝ }
+{
+    match word {
+        0 => b'a',
+        1 => b'a',
+        2 => b'p',
+        3 => b'p',
+        4 => b'p',
+        _ => b'l',
+    }
+}
+
+fn place_letter_1(word: u64) -> u8
+    ensures { λ r. ⌜ lettered r ≡ classAt LineKind.Places word 1 ⌝ }
+{
+    match word {
+        2 => b'a',
+        3 => b'n',
+        4 => b'n',
+        _ => b'l',
+    }
 }
 
 fn place_letter(word: u64, i: u64) -> u8
     ensures { λ r. ⌜ lettered r ≡ classAt LineKind.Places word i ⌝ }
 {
     if i == 0 {
-        return letter(b"aappp", word, b'l');
+        return place_letter_0(word);
     }
     if i == 1 {
-        return letter(b"llann", word, b'l');
+        return place_letter_1(word);
     }
     b'l'
+}
+
+fn node_letter_1(word: u64) -> u8
+    ensures { λ r. ⌜ lettered r ≡ classAt LineKind.Nodes word 1 ⌝ }
+{
+    match word {
+        0 => b'b',
+        1 => b'a',
+        2 => b'm',
+        3 => b'a',
+        5 => b'a',
+        7 => b'p',
+        8 => b'u',
+        9 => b'i',
+        10 => b'n',
+        11 => b'n',
+        12 => b'o',
+        13 => b'c',
+        14 => b'n',
+        15 => b'p',
+        16 => b'n',
+        17 => b'n',
+        18 => b'n',
+        19 => b'n',
+        _ => b'l',
+    }
+}
+
+fn node_letter_2(word: u64) -> u8
+    ensures { λ r. ⌜ lettered r ≡ classAt LineKind.Nodes word 2 ⌝ }
+{
+    match word {
+        8 => b'n',
+        9 => b'n',
+        11 => b'n',
+        12 => b'n',
+        13 => b'n',
+        14 => b'n',
+        16 => b'n',
+        17 => b'n',
+        18 => b'a',
+        19 => b'a',
+        _ => b'l',
+    }
+}
+
+fn node_letter_3(word: u64) -> u8
+    ensures { λ r. ⌜ lettered r ≡ classAt LineKind.Nodes word 3 ⌝ }
+{
+    match word {
+        9 => b'n',
+        12 => b'n',
+        14 => b'n',
+        17 => b'n',
+        19 => b'n',
+        _ => b'l',
+    }
+}
+
+fn node_letter_4(word: u64) -> u8
+    ensures { λ r. ⌜ lettered r ≡ classAt LineKind.Nodes word 4 ⌝ }
+{
+    match word {
+        17 => b'n',
+        _ => b'l',
+    }
 }
 
 fn node_letter(word: u64, i: u64) -> u8
@@ -77,15 +191,38 @@ fn node_letter(word: u64, i: u64) -> u8
         return b'y';
     }
     if i == 1 {
-        return letter(b"bamalalpuinnocnpnnnn", word, b'l');
+        return node_letter_1(word);
     }
     if i == 2 {
-        return letter(b"llllllllnnlnnnnlnnaa", word, b'l');
+        return node_letter_2(word);
     }
     if i == 3 {
-        return letter(b"lllllllllnllnlnllnln", word, b'l');
+        return node_letter_3(word);
     }
-    letter(b"lllllllllllllllllnll", word, b'l')
+    node_letter_4(word)
+}
+
+// The letters of a storage's fields, and of a variable's and a static's, which are alike.
+fn storage_letter(i: u64) -> u8
+    ensures { λ r. ⌜ lettered r ≡ classAt LineKind.Storages 0 i ⌝ }
+{
+    match i {
+        0 => b'k',
+        2 => b'b',
+        3 => b'r',
+        _ => b'l',
+    }
+}
+
+fn placed_letter(i: u64) -> u8
+    ensures { λ r. ⌜ lettered r ≡ classAt LineKind.Variables 0 i ⌝ }
+{
+    match i {
+        0 => b's',
+        2 => b'y',
+        3 => b'b',
+        _ => b'l',
+    }
 }
 
 fn class_letter(kind: LineKind, word: u64, i: u64) -> u8
@@ -94,9 +231,9 @@ fn class_letter(kind: LineKind, word: u64, i: u64) -> u8
     match kind {
         LineKind::Functions => b'l',
         LineKind::Types => type_letter(word, i),
-        LineKind::Storages => letter(b"klbr", i, b'l'),
-        LineKind::Variables => letter(b"slyb", i, b'l'),
-        LineKind::Statics => letter(b"slyb", i, b'l'),
+        LineKind::Storages => storage_letter(i),
+        LineKind::Variables => placed_letter(i),
+        LineKind::Statics => placed_letter(i),
         LineKind::Places => place_letter(word, i),
         LineKind::Nodes => node_letter(word, i),
     }
@@ -149,20 +286,59 @@ fn numbered(
     Formed::Unformed
 }
 
+// A number below 32 by three bytes of a word: another for each word of a line's kind.
+fn mixed(line: &[u8], at: usize) -> u64 {
+    if line.len() < 4 {
+        return 32;
+    }
+    if line.len() - 4 < at {
+        return 32;
+    }
+    let a = line[at] as u64;
+    let b = line[at + 2] as u64;
+    let c = line[at + 3] as u64;
+    (a + b * 8 + c * 10) % 32
+}
+
+// The words by such a number, and where each stands among the words.
+fn type_word(line: &[u8], cursor: Cursor) -> Keyword
+    ensures { λ r. ⌜ WordAt (now (line .entry)) (bytes "unit,bool,bits,float,pointer,array,struct,tuple,opaque") (cursor .at) r ⌝ }
+{
+    let words = b"unit,bool,bits,float,pointer,array,struct,tuple,opaque";
+    let k = letter(
+        b"\x02\x08\x09\x09\x04\x00\x09\x09\x03\x09\x09\x09\x07\x09\x09\x09\x09\x09\x01\x09\x09\x06\x09\x09\x09\x09\x09\x05\x09\x09\x09\x09",
+        mixed(line, cursor.at),
+        9,
+    ) as u64;
+    let s = letter(b"\x00\x05\x0a\x0f\x15\x1d\x23\x2a\x30", k, 1) as usize;
+    let e = letter(b"\x04\x09\x0e\x14\x1c\x22\x29\x2f\x36", k, 0) as usize;
+    fields::word_tried(line, cursor, words, k, s, e)
+}
+
 fn type_form(line: &[u8], cursor: Cursor, lists: &mut [u64], used: usize) -> Formed
     requires { ⌜ (used * 2 + length (now line) ≤ length (now lists) * 2) × (1 ≤ cursor .at) ⌝ }
     ensures { λ r. ⌜ FormAt (type-form (fields-from (now (line .entry)) (cursor .at)))
         (now (line .entry)) (now (lists .entry)) (now (lists .exit)) used r ⌝ }
 {
-    let Keyword::Word(w, next) = fields::word(
-        line,
-        cursor,
-        b"unit,bool,bits,float,pointer,array,struct,tuple,opaque",
-    ) else {
+    let Keyword::Word(w, next) = type_word(line, cursor) else {
         return Formed::Unformed;
     };
     let c = letter(b"001102::1", w, b'0');
     numbered(line, next, lists, used, 0, LineKind::Types, w, c)
+}
+
+fn place_word(line: &[u8], cursor: Cursor) -> Keyword
+    ensures { λ r. ⌜ WordAt (now (line .entry)) (bytes "variable,static,field,element,offset") (cursor .at) r ⌝ }
+{
+    let words = b"variable,static,field,element,offset";
+    let k = letter(
+        b"\x00\x05\x05\x01\x05\x05\x02\x05\x05\x05\x05\x05\x05\x05\x05\x03\x05\x05\x05\x05\x05\x05\x05\x05\x05\x05\x05\x05\x05\x04\x05\x05",
+        mixed(line, cursor.at),
+        5,
+    ) as u64;
+    let s = letter(b"\x00\x09\x10\x16\x1e", k, 1) as usize;
+    let e = letter(b"\x08\x0f\x15\x1d\x24", k, 0) as usize;
+    fields::word_tried(line, cursor, words, k, s, e)
 }
 
 fn place_form(line: &[u8], cursor: Cursor, lists: &mut [u64], used: usize) -> Formed
@@ -170,8 +346,7 @@ fn place_form(line: &[u8], cursor: Cursor, lists: &mut [u64], used: usize) -> Fo
     ensures { λ r. ⌜ FormAt (place-form (fields-from (now (line .entry)) (cursor .at)))
         (now (line .entry)) (now (lists .entry)) (now (lists .exit)) used r ⌝ }
 {
-    let Keyword::Word(w, next) = fields::word(line, cursor, b"variable,static,field,element,offset")
-    else {
+    let Keyword::Word(w, next) = place_word(line, cursor) else {
         return Formed::Unformed;
     };
     let c = letter(b"11222", w, b'0');
@@ -183,7 +358,22 @@ fn node_word(line: &[u8], cursor: Cursor) -> Keyword
 {
     let words =
         b"bool,int,f32,f64,null,staticaddress,function,read,unary,binary,funary,fbinary,compare,convert,select,address,offset,aggregate,extract,insert";
-    fields::word(line, cursor, words)
+    let k = letter(
+        b"\x0a\x01\x07\x05\x14\x0e\x04\x14\x14\x14\x14\x0c\x14\x11\x02\x0d\x14\x08\x00\x13\x06\x0f\x14\x14\x14\x12\x0b\x14\x09\x10\x03\x14",
+        mixed(line, cursor.at),
+        20,
+    ) as u64;
+    let s = letter(
+        b"\x00\x05\x09\x0d\x11\x16\x24\x2d\x32\x38\x3f\x46\x4e\x56\x5e\x65\x6d\x74\x7e\x86",
+        k,
+        1,
+    ) as usize;
+    let e = letter(
+        b"\x04\x08\x0c\x10\x15\x23\x2c\x31\x37\x3e\x45\x4d\x55\x5d\x64\x6c\x73\x7d\x85\x8c",
+        k,
+        0,
+    ) as usize;
+    fields::word_tried(line, cursor, words, k, s, e)
 }
 
 // A node's TYPE stands before its word.
@@ -234,13 +424,38 @@ fn form_of(k: u64, line: &[u8], cursor: Cursor, lists: &mut [u64], used: usize) 
     }
 }
 
+// The kinds by their letters, from `f` on.
+fn kind_place(line: &[u8]) -> u64 {
+    if line.len() == 0 {
+        return 7;
+    }
+    let b = line[0];
+    if b < 102 {
+        return 7;
+    }
+    letter(
+        b"\x00\x04\x07\x07\x07\x07\x07\x07\x06\x07\x05\x07\x07\x02\x01\x07\x03",
+        (b - 102) as u64,
+        7,
+    ) as u64
+}
+
+fn kind_word(line: &[u8]) -> Keyword
+    ensures { λ r. ⌜ WordAt (now (line .entry)) (bytes "f,t,s,v,g,p,n") 0 r ⌝ }
+{
+    let words = b"f,t,s,v,g,p,n";
+    let k = kind_place(line);
+    let s = letter(b"\x00\x02\x04\x06\x08\x0a\x0c", k, 1) as usize;
+    let e = letter(b"\x01\x03\x05\x07\x09\x0b\x0d", k, 0) as usize;
+    fields::word_tried(line, Cursor { at: 0 }, words, k, s, e)
+}
+
 // A line without its line feed.
 pub fn line_form(line: &[u8], lists: &mut [u64], used: usize) -> Formed
     requires { ⌜ used * 2 + length (now line) ≤ length (now lists) * 2 ⌝ }
     ensures { λ r. ⌜ FormAt (lineOf (now (line .entry))) (now (line .entry)) (now (lists .entry)) (now (lists .exit)) used r ⌝ }
 {
-    let start = Cursor { at: 0 };
-    match fields::word(line, start, b"f,t,s,v,g,p,n") {
+    match kind_word(line) {
         Keyword::Word(k, next) => form_of(k, line, next, lists, used),
         Keyword::Unknown => Formed::Unformed,
     }

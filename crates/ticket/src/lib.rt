@@ -1,10 +1,10 @@
 // The ticket: its lines as tables, the expression that they stand for, and its reading.
-ghost use mathlib.Core.Path.{_≡_};
 use tables::Counts;
 
 mod adding;
 mod checks;
 mod forms;
+mod keys;
 mod measures;
 pub mod reading;
 mod rows;
@@ -55,6 +55,18 @@ pub enum Verdict {
     Refused(u64),
 }
 
+// Whether numbers are within their ranges, and are earlier lines' numbers where they name lines.
+pub struct Seen {
+    pub ranged: bool,
+    pub earlier: bool,
+}
+
+// The depth of what numbers refer to, or one of them refers to a line a second time.
+pub enum Marked {
+    Deep(u64),
+    Twice,
+}
+
 // A type's size and weight.
 pub enum Measured {
     Fits(u64, u64),
@@ -98,8 +110,9 @@ pub struct Reader<'a> {
     pub at: usize,
 }
 
-// The refusal's number and line, or the tables' counts.
+// The refusal's number and line, or the tables' counts. NoRoom: the rows lent are too few for the ticket's lines.
 pub enum ReadAnswer {
     Refused(u64, u64),
     Accepted(Counts),
+    NoRoom,
 }

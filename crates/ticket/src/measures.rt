@@ -1,16 +1,18 @@
 // Types compared and measured: refusals 5 and 6.
 ghost use mathlib.Core.Path.{_≡_};
 ghost use Prim.Native.Nat.{_+_, _*_, _/_, _≤_, _<_};
-ghost use lib.ListN.{length, getD};
+ghost use lib.ListN.{length};
 ghost use Rattle.spec.specs.Text.{same};
-ghost use Rattle.tables.specs.Tables.{run, cell, type-word-by};
+ghost use Rattle.tables.specs.Tables.{row-of, run, cell, type-word-by};
 ghost use Rattle.spec.specs.Limits.{type-size-limit, type-weight-limit};
 ghost use Rattle.spec.specs.Ticket.{arg as argOf, sum, type-size-by, weight-by};
 ghost use Rattle.spec.specs.Read.{alike as alikeOf, type-number as numberOf};
-ghost use Rattle.ticket.specs.Rows.{Few, Held, rowAt, section, typeRow};
+ghost use Rattle.ticket.specs.Rows.{Held, Roomy, rowAt, section, typeRow};
+ghost use Rattle.ticket.specs.Keys.{Keyed};
 ghost use Rattle.ticket.specs.Steps.{cappedOf, capped, measuredOf, measured, moreOf, alikeTo};
 use crate::Capped;
 use crate::Measured;
+use crate::keys::known;
 use tables::Counts;
 use tables::arg;
 use tables::cell;
@@ -51,7 +53,7 @@ fn alike_row(
     n: usize,
 ) -> bool
     requires { ⌜ (start + n ≤ length (now lists)) × Held (now rows) counts × (counts .used ≤ length (now lists)) × (k < counts .types) ⌝ }
-    ensures { λ r. ⌜ r ≡ alikeTo w (run (now (lists .entry)) start n) (typeRow (now (lists .entry)) (rowAt (now (rows .entry)) k)) ⌝ }
+    ensures { λ r. ⌜ r ≡ alikeTo w (run (now (lists .entry)) start n) (typeRow (now (lists .entry)) (rowAt (now (rows .entry)) (row-of 0 k))) ⌝ }
 {
     let v = cell(rows, 0, counts.types, k, 0, 0);
     if type_number(v) != w {
@@ -62,7 +64,7 @@ fn alike_row(
     same_runs(lists, start, n, b as usize, m as usize)
 }
 
-pub fn alike(rows: &[u64], lists: &[u64], counts: Counts, word: u64, start: usize, n: usize) -> bool
+fn alike_any(rows: &[u64], lists: &[u64], counts: Counts, word: u64, start: usize, n: usize) -> bool
     requires { ⌜ (start + n ≤ length (now lists)) × Held (now rows) counts × (counts .used ≤ length (now lists)) ⌝ }
     ensures { λ r. ⌜ r ≡ alikeOf (type-word-by word) (run (now (lists .entry)) start n) (section (typeRow (now (lists .entry))) (now (rows .entry)) 0 (counts .types)) ⌝ }
 {
@@ -76,6 +78,18 @@ pub fn alike(rows: &[u64], lists: &[u64], counts: Counts, word: u64, start: usiz
         k += 1;
     }
     false
+}
+
+// 5: a type alike. Only a type whose key is known is compared with the others.
+pub fn alike(rows: &[u64], lists: &[u64], counts: Counts, word: u64, start: usize, n: usize) -> bool
+    requires { ⌜ (start + n ≤ length (now lists)) × Held (now rows) counts × Roomy (length (now rows)) counts × Keyed (now rows) (now lists) (counts .types) × (counts .used ≤ length (now lists)) ⌝ }
+    ensures { λ r. ⌜ r ≡ alikeOf (type-word-by word) (run (now (lists .entry)) start n) (section (typeRow (now (lists .entry))) (now (rows .entry)) 0 (counts .types)) ⌝ }
+{
+    let w = type_number(word);
+    if !known(rows, lists, w, start, n) {
+        return false;
+    }
+    alike_any(rows, lists, counts, word, start, n)
 }
 
 fn cap(limit: u64, n: u64) -> Capped

@@ -1,10 +1,11 @@
 // Reading a ticket.
 ghost use mathlib.Core.Path.{_≡_};
 ghost use Prim.Native.Nat.{_+_, _*_, _≤_, _<_};
-ghost use lib.ListN.{length, drop};
+ghost use lib.ListN.{length};
+ghost use Rattle.tables.specs.Tables.{row-of};
 ghost use Rattle.spec.specs.Text.{split, line-feed};
 ghost use Rattle.spec.specs.Read.{at-end, read-lines as readLines, read-ticket as readTicket, start};
-ghost use Rattle.ticket.specs.Rows.{Few, Held, rows-length, readingOf};
+ghost use Rattle.ticket.specs.Rows.{Few, Held, RoomIs, readingOf};
 ghost use Rattle.ticket.specs.Answers.{leastOf, joined, with-left, least-rows, but-last, left-of, Answered, Advance, Ready, behindOf, Begun};
 use crate::Advanced;
 use crate::Least;
@@ -30,7 +31,7 @@ fn lesser(x: u64, least: Least) -> Least
 
 fn with_row(rows: &[u64], base: u64, n: u64, k: u64, least: Least) -> Least
     requires { ⌜ (base + n ≤ 65536) × (k < n) ⌝ }
-    ensures { λ r. ⌜ leastOf r ≡ with-left (now (rows .entry)) (base + k) (leastOf least) ⌝ }
+    ensures { λ r. ⌜ leastOf r ≡ with-left (now (rows .entry)) (row-of base k) (leastOf least) ⌝ }
 {
     if cell(rows, base, n, k, 5, 0) != 0 {
         return least;
@@ -64,8 +65,8 @@ fn left_over(rows: &[u64], counts: Counts) -> Least
     ensures { λ r. ⌜ leastOf r ≡ left-of (now (rows .entry)) counts ⌝ }
 {
     let others = but_root(counts.nodes);
-    let seen = least_left(rows, 896, others, Least::Nothing);
-    least_left(rows, 640, counts.places, seen)
+    let seen = least_left(rows, 5, others, Least::Nothing);
+    least_left(rows, 4, counts.places, seen)
 }
 
 // The text's end: a line left over, or no node.
@@ -155,13 +156,42 @@ fn none_read() -> Counts
     }
 }
 
+// Whether there is a row more for each kind. One row of each takes 40 words, with those for keys.
+fn room(rows: &[u64], counts: Counts) -> bool
+    ensures { λ r. ⌜ RoomIs (length (now (rows .entry))) counts r ⌝ }
+{
+    let n = rows.len() as u64 / 40;
+    if n <= counts.types {
+        return false;
+    }
+    if n <= counts.storages {
+        return false;
+    }
+    if n <= counts.variables {
+        return false;
+    }
+    if n <= counts.statics {
+        return false;
+    }
+    if n <= counts.places {
+        return false;
+    }
+    if n <= counts.nodes {
+        return false;
+    }
+    true
+}
+
 fn read_lines(text: &[u8], rows: &mut [u64], lists: &mut [u64]) -> ReadAnswer
-    requires { ⌜ (rows-length ≤ length (now rows)) × (length (now text) ≤ length (now lists) * 2) × (length (now text) ≤ 65536) ⌝ }
+    requires { ⌜ (length (now text) ≤ length (now lists) * 2) × (length (now text) ≤ 65536) ⌝ }
     ensures { λ r. ⌜ Answered (readLines (split line-feed (now (text .entry))) start) (now (rows .exit)) (now (lists .exit)) r ⌝ }
 {
     let mut counts = none_read();
     let mut at: usize = 0;
     while at < text.len() {
+        if !room(rows, counts) {
+            return ReadAnswer::NoRoom;
+        }
         match line_at(text, at, rows, lists, counts) {
             Advanced::Behind(next, behind) => {
                 counts = next;
@@ -175,9 +205,9 @@ fn read_lines(text: &[u8], rows: &mut [u64], lists: &mut [u64]) -> ReadAnswer
     finish(rows, lists, counts)
 }
 
-// Any bytes into tables, or their refusal.
+// Any bytes into tables, or their refusal, or too little room for the tables.
 pub fn read_ticket(text: &[u8], rows: &mut [u64], lists: &mut [u64]) -> ReadAnswer
-    requires { ⌜ (rows-length ≤ length (now rows)) × (length (now text) ≤ length (now lists) * 2) ⌝ }
+    requires { ⌜ length (now text) ≤ length (now lists) * 2 ⌝ }
     ensures { λ r. ⌜ Answered (readTicket (now (text .entry))) (now (rows .exit)) (now (lists .exit)) r ⌝ }
 {
     if 65536 < text.len() {

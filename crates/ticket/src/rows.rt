@@ -1,5 +1,4 @@
 // The words of the tables: a row stored, a row marked. Look-ups are those of crate `tables`, which has the layout.
-ghost use mathlib.Core.Path.{_≡_};
 ghost use mathlib.Core.Bool.{true};
 ghost use Prim.Native.Nat.{_+_, _*_, _≤_, _<_};
 ghost use lib.ListN.{length};
@@ -28,15 +27,15 @@ pub fn put_row(
     rows[at + 5] = fifth;
 }
 
-// Marks row k of the n from `base` on: false where it was marked.
+// Marks row k of the n of a kind: false where it was marked.
 pub fn mark(rows: &mut [u64], base: u64, n: u64, k: u64) -> bool
-    requires { ⌜ (base + n ≤ 65536) × ((base + n) * 6 ≤ length (now rows)) ⌝ }
+    requires { ⌜ (base < 6) × (n ≤ 65536) × (n * 36 ≤ length (now rows)) ⌝ }
     ensures { λ r. ⌜ MarkAt (now (rows .entry)) (now (rows .exit)) base n k r ⌝ }
 {
     if n <= k {
         return true;
     }
-    let at = ((base + k) * 6 + 5) as usize;
+    let at = ((base + k * 6) * 6 + 5) as usize;
     if rows[at] != 0 {
         return false;
     }

@@ -3,27 +3,27 @@ ghost use mathlib.Core.Path.{_≡_};
 ghost use mathlib.Core.Bool.{true};
 ghost use Prim.Native.Nat.{_+_, _*_, _≤_, _<_};
 ghost use lib.ListN.{length};
-ghost use Rattle.tables.specs.Tables.{run, type-word-by};
 ghost use Rattle.spec.specs.Limits.{size-sum-limit};
 ghost use Rattle.spec.specs.Forms.{lineOf};
-ghost use Rattle.spec.specs.Read.{right-start as rightStart, types-right as typesRight, step as stepFrom};
-ghost use Rattle.ticket.specs.Classes.{headOf, lineFrom};
-ghost use Rattle.ticket.specs.Rows.{Few, Held, rows-length, tablesOf, readingOf};
-ghost use Rattle.ticket.specs.Steps.{fewOf, measuredOf, capped, cappedOf};
+ghost use Rattle.spec.specs.Read.{step as stepFrom};
+ghost use Rattle.ticket.specs.Classes.{argsOf};
+ghost use Rattle.ticket.specs.Rows.{Few, Held, Roomy, readingOf};
+ghost use Rattle.ticket.specs.Keys.{Keyed};
+ghost use Rattle.ticket.specs.Steps.{fewOf, measuredOf, capped, cappedOf, deepestIn};
 ghost use Rattle.ticket.specs.Judged.{typesIn, startIn, sizedIn, allowedIn, ownIn, summedOf, sumsIn, Judged, last-step, late-step, StepAt};
 use crate::Capped;
 use crate::Extent;
 use crate::Form;
 use crate::Formed;
 use crate::LineKind;
+use crate::Marked;
 use crate::Measured;
 use crate::Stepped;
 use crate::Summed;
 use crate::Verdict;
 use crate::adding::add;
-use crate::checks::deepest;
 use crate::checks::early;
-use crate::checks::once;
+use crate::checks::mark_all;
 use crate::forms::line_form;
 use crate::measures::alike;
 use crate::measures::measure;
@@ -46,7 +46,7 @@ fn right_start(k: u64, word: u64) -> bool
 }
 
 fn type_right(rows: &[u64], lists: &[u64], counts: Counts, word: u64, n: usize) -> bool
-    requires { ⌜ (counts .used + n ≤ length (now lists)) × Held (now rows) counts ⌝ }
+    requires { ⌜ (counts .used + n ≤ length (now lists)) × Held (now rows) counts × Roomy (length (now rows)) counts × Keyed (now rows) (now lists) (counts .types) ⌝ }
     ensures { λ r. ⌜ r ≡ typesIn (now (rows .entry)) (now (lists .entry)) counts LineKind.Types word n ⌝ }
 {
     let used = counts.used;
@@ -57,7 +57,7 @@ fn type_right(rows: &[u64], lists: &[u64], counts: Counts, word: u64, n: usize) 
 }
 
 fn types_right(form: Form, rows: &[u64], lists: &[u64], counts: Counts) -> bool
-    requires { ⌜ (counts .used + form .count ≤ length (now lists)) × Held (now rows) counts ⌝ }
+    requires { ⌜ (counts .used + form .count ≤ length (now lists)) × Held (now rows) counts × Roomy (length (now rows)) counts × Keyed (now rows) (now lists) (counts .types) ⌝ }
     ensures { λ r. ⌜ r ≡ typesIn (now (rows .entry)) (now (lists .entry)) counts (form .kind) (form .word) (form .count) ⌝ }
 {
     let kind = form.kind;
@@ -170,13 +170,12 @@ fn last(
     counts: Counts,
     size: u64,
     weight: u64,
+    d: u64,
 ) -> Stepped
-    requires { ⌜ Held (now rows) counts × (rows-length ≤ length (now rows)) × (counts .used + form .count ≤ length (now lists)) × (fewOf (form .kind) counts ≡ true) × (counts .lines < 65536) ⌝ }
+    requires { ⌜ Held (now rows) counts × Roomy (length (now rows)) counts × Keyed (now rows) (now lists) (counts .types) × (counts .used + form .count ≤ length (now lists)) × (fewOf (form .kind) counts ≡ true) × (counts .lines < 65536) × (d ≡ deepestIn (now rows) counts (argsOf form (now lists) (counts .used))) ⌝ }
     ensures { λ r. ⌜ Judged (last-step (now (rows .entry)) (now (lists .entry)) counts form size weight) (now (rows .exit)) (now (lists .entry)) counts form r ⌝ }
 {
-    let used = counts.used;
     let kind = form.kind;
-    let d = deepest(form, rows, lists, used, counts);
     if allowed(kind) <= d {
         return Stepped::Turned(9);
     }
@@ -195,7 +194,7 @@ fn last(
 
 // 5, 6 and 7, and then the rest.
 fn late(form: Form, rows: &mut [u64], lists: &[u64], counts: Counts) -> Stepped
-    requires { ⌜ Held (now rows) counts × (rows-length ≤ length (now rows)) × (counts .used + form .count ≤ length (now lists)) × (fewOf (form .kind) counts ≡ true) × (counts .lines < 65536) ⌝ }
+    requires { ⌜ Held (now rows) counts × Roomy (length (now rows)) counts × Keyed (now rows) (now lists) (counts .types) × (counts .used + form .count ≤ length (now lists)) × (fewOf (form .kind) counts ≡ true) × (counts .lines < 65536) ⌝ }
     ensures { λ r. ⌜ Judged (late-step (now (rows .entry)) (now (lists .entry)) counts form) (now (rows .exit)) (now (lists .entry)) counts form r ⌝ }
 {
     let used = counts.used;
@@ -205,15 +204,15 @@ fn late(form: Form, rows: &mut [u64], lists: &[u64], counts: Counts) -> Stepped
     let Measured::Fits(size, weight) = sized(form, rows, lists, counts) else {
         return Stepped::Turned(6);
     };
-    if !once(form, rows, lists, used, counts) {
+    let Marked::Deep(d) = mark_all(form, rows, lists, used, counts) else {
         return Stepped::Turned(7);
-    }
-    last(form, rows, lists, counts, size, weight)
+    };
+    last(form, rows, lists, counts, size, weight, d)
 }
 
 // A line without its line feed.
 pub fn step(line: &[u8], rows: &mut [u64], lists: &mut [u64], counts: Counts) -> Stepped
-    requires { ⌜ Held (now rows) counts × (rows-length ≤ length (now rows)) × (counts .used * 2 + length (now line) ≤ length (now lists) * 2) × (counts .lines < 65536) ⌝ }
+    requires { ⌜ Held (now rows) counts × Roomy (length (now rows)) counts × Keyed (now rows) (now lists) (counts .types) × (counts .used * 2 + length (now line) ≤ length (now lists) * 2) × (counts .lines < 65536) ⌝ }
     ensures { λ r. ⌜ StepAt (stepFrom (readingOf (now (rows .entry)) (now (lists .entry)) counts) (lineOf (now (line .entry))))
         (now (line .entry)) (now (rows .exit)) (now (lists .exit)) counts r ⌝ }
 {

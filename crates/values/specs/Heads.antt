@@ -1,11 +1,11 @@
 -- A value as records in pre-order: its own head, and the heads of its parts.
-use mathlib.Core.Path.{_≡_, refl, sym, ap, _∙_}
+use mathlib.Core.Path.{_≡_, refl, sym, ap}
 use mathlib.Core.List.{List, [], _∷_, _++_, map, append-assoc, append-nil}
 use mathlib.Core.Option.{Option, none, some}
-use Prim.Native.Nat.{ℕ, zero, suc, _+_, _-_, _*_, _≤_, _<_}
+use Prim.Native.Nat.{ℕ, zero, suc, _+_, _-_, _≤_}
 use native.Mathlib.Omega.{arith}
-use lib.ListN.{length, take, drop, length-append, length-drop}
-use lib.Seq.{drop-at, take-at}
+use lib.ListN.{length, drop, length-drop}
+use lib.Seq.{drop-at}
 use Rattle.spec.specs.Lir.{
   ByteOperand,
   BitOperand,

@@ -1,21 +1,23 @@
 -- Laws of one step after another.
-use mathlib.Core.Path.{_≡_, refl, sym, ap, subst, _∙_}
-use mathlib.Core.List.{List, [], _∷_, _++_, map, append-assoc, append-nil}
-use Prim.Native.Nat.{ℕ, zero, suc, _+_, _-_, _*_, _≤_, _<_}
+use mathlib.Core.Path.{_≡_, refl, sym, ap, _∙_}
+use mathlib.Core.List.{List, [], _∷_, _++_, append-assoc, append-nil}
+use Prim.Native.Nat.{ℕ, suc, _+_, _*_, _≤_}
 use native.Mathlib.Omega.{arith}
 use lib.ListN.{length, take, drop, length-append}
 use lib.Seq.{sets, sets-eq, length-sets, take-take, take-at, drop-at, take-add, take-append-add, length-take-le}
 use Rattle.spec.specs.Hir.{At}
-use Rattle.spec.specs.Lir.{BitOperand, Value, value, Values, _∷ᵛ_}
-use Rattle.spec.specs.Monad.{Out, Outcome, done, refused, nothing, _⊕_, prepend, bind-to}
+use Rattle.spec.specs.Lir.{BitOperand, Value, Values, _∷ᵛ_}
+use Rattle.spec.specs.Monad.{Out, Outcome, done, refused, nothing, _⊕_, prepend, bind-to, Lower, _>>=_, _>>_}
 use Rattle.spec.specs.Monad as monad
-use Rattle.emission.specs.Appends.{Positions, texts, append-none, append-then}
+use Rattle.emission.specs.declared.Counters.{Counters}
+use Rattle.emission.specs.Appends.{Positions, texts, counters-of, append-none, append-then}
+use Rattle.emission.specs.Does.{Does, out}
 use Rattle.values.specs.declared.State.{State}
 use Rattle.values.specs.declared.Value.{Value as Val}
 use Rattle.values.specs.declared.Lowered.{Lowered}
 use Rattle.values.specs.declared.BitLowered.{BitLowered}
 use Rattle.values.specs.declared.Listed.{Listed}
-use Rattle.values.specs.Heads.{Head, root, parts-of, preorders, count, head-of, Sound-value, All-sound, sound-append, map-append, length-heads}
+use Rattle.values.specs.Heads.{Head, head-of, Sound-value, sound-append, map-append}
 use Rattle.values.specs.Left.{
   Bufs,
   bufs,
@@ -123,6 +125,44 @@ drop-bit-case a h (refused i j) b2 (BitLowered.Refused i′ j′) k = k
 pub drop-bit : {b : Bufs} {s : State} {hs : List Head} {cs : monad.Counters} {o : Out} {b1 : Bufs} {s1 : State} {x : Outcome BitOperand} {b2 : Bufs} {r : BitLowered}
     → Left b s hs cs o b1 s1 → s .top ≤ length (b .stack) → MeetsBit b1 (at-top s1 (s .top)) x b2 r → MeetsBit b s (prepend o x) b2 r
 drop-bit {x = x} {b2} {r} a h k = record { shown = drop-bit-case a h x b2 r (k .shown) }
+
+-- what a step has done that leaves no records
+pub left-does : {A : Type 0} {k : ℕ} {code store code′ store′ : List ℕ} {s : State} {m : Lower A} {a : A} {c1 : Counters} (n stack : List ℕ) (h : At)
+    (d : Does k (texts code store) (s .counters) m a (texts code′ store′) c1)
+    → Left (bufs code store n stack) s [] (counters-of c1) (out (d .storages) (d .kinds) h) (bufs code′ store′ n stack) (record { counters = c1; top = s .top })
+unfolding marked values-words
+left-does {s = s} n stack h d =
+    record {
+      appends = d .appends h;
+      numbers = refl;
+      narrows = refl;
+      parts = [];
+      shows = refl;
+      sound = tt;
+      topped = omega arith;
+      stacked = sym (append-nil (take (s .top) stack));
+      long = refl;
+    }
+
+then-case : {b : Bufs} {s : State} {cs : monad.Counters} {o : Out} {b1 : Bufs} {s1 : State} → Left b s [] cs o b1 s1
+    → (x : Outcome Value) (b2 : Bufs) (r : Lowered) → case-value b1 s1 x b2 r → case-value b s (prepend o x) b2 r
+then-case a (done v t p) b2 (Lowered.Done y s2) k = (k .0, k .1, left-then a (k .2))
+then-case a (done v t p) b2 (Lowered.Refused i j) k = k
+then-case a (refused i j) b2 (Lowered.Done y s2) k = k
+then-case a (refused i j) b2 (Lowered.Refused i′ j′) k = k
+
+-- a step that appends, and then one that answers a value
+module _ {A : Type 0} {n : ℕ} {code store code1 store1 : List ℕ} {s : State} {m : Lower A} {a : A} {c1 : Counters} {b2 : Bufs} {r : Lowered} (h : At) (ns stack : List ℕ)
+    (d : Does n (texts code store) (s .counters) m a (texts code1 store1) c1) where
+  pub does-meets : (f : A → Lower Value) → MeetsValue (bufs code1 store1 ns stack) (record { counters = c1; top = s .top }) (f a h (counters-of c1)) b2 r
+      → MeetsValue (bufs code store ns stack) s ((m >>= f) h (counters-in s)) b2 r
+  unfolding _>>=_
+  does-meets f k = rw (d .is h) (record { shown = then-case (left-does {s = s} ns stack h d) (f a h (counters-of c1)) b2 r (k .shown) })
+
+  pub next-meets : (p : Lower Value) → MeetsValue (bufs code1 store1 ns stack) (record { counters = c1; top = s .top }) (p h (counters-of c1)) b2 r
+      → MeetsValue (bufs code store ns stack) s ((m >> p) h (counters-in s)) b2 r
+  unfolding _>>_
+  next-meets p k = rw (d .is h) (record { shown = then-case (left-does {s = s} ns stack h d) (p h (counters-of c1)) b2 r (k .shown) })
 
 -- ws stored at t, below what was left above t + n
 under : (l l1 ws xs : List ℕ) (t n m : ℕ) → length ws ≡ n → t + n ≤ length l → length l1 ≡ length l → take (t + n + m) l1 ≡ take (t + n) l ++ xs → take (t + n + m) (sets l1 t ws) ≡ take t l ++ (ws ++ xs)

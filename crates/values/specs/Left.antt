@@ -1,9 +1,9 @@
 -- What a step leaves behind, and which outcome it was.
-use mathlib.Core.Path.{_≡_, refl, sym, ap, subst, _∙_}
+use mathlib.Core.Path.{_≡_, refl, sym, ap, subst}
 use mathlib.Core.List.{List, [], _∷_, _++_, map, append-assoc}
-use Prim.Native.Nat.{ℕ, zero, suc, _+_, _*_, _≤_}
+use Prim.Native.Nat.{ℕ, _+_, _*_}
 use lib.ListN.{length, take, set}
-use Rattle.spec.specs.Lir.{BitOperand, Value, value, Values}
+use Rattle.spec.specs.Lir.{BitOperand, Value, Values}
 use Rattle.spec.specs.Monad.{Out, Outcome, done, refused}
 use Rattle.spec.specs.Monad as monad
 use Rattle.lir.specs.Abstract.{bit-operand-of}

@@ -1,12 +1,12 @@
 -- Laws of a loop of stores and of a loop of copies.
-use mathlib.Core.Path.{_≡_, refl, sym, ap, _∙_}
+use mathlib.Core.Path.{_≡_, sym, _∙_}
 use mathlib.Core.List.{List}
 use Prim.Native.Nat.{ℕ, suc, _+_, _≤_, _<_}
 use native.Mathlib.Omega.{arith}
 use native.Mathlib.Numerals.{add-one}
 use lib.ListN.{length, take, drop, set, getD, length-drop}
 use Rattle.text.specs.Put.{sets-append}
-use lib.Seq.{sets, set-out, take-suc, take-suc-set, getD-drop, length-sets, length-take-le}
+use lib.Seq.{sets, set-out, take-suc, take-suc-set, getD-drop, length-take-le}
 
 -- one store more, in range
 pub sets-more : (l ws : List ℕ) (at j : ℕ) → j < length ws → sets l at (take (suc j) ws) ≡ set (sets l at (take j ws)) (at + length (take j ws)) (getD ws j 0)

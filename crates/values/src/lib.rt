@@ -7,7 +7,7 @@ use lir::Bytes;
 use lir::Source;
 use lir::StorageId;
 ghost use mathlib.Core.Path.{_≡_};
-ghost use Prim.Native.Nat.{ℕ, _+_, _<_, _^_};
+ghost use Prim.Native.Nat.{_+_, _<_, _^_};
 ghost use lib.ListN.{getD};
 ghost use lib.Seq.{sets};
 ghost use Rattle.values.specs.Left.{at-top, bit-words, bytes-words, value-words};

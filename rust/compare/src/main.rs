@@ -6,8 +6,8 @@ mod samples;
 #[cfg(feature = "ours")]
 mod shrink;
 
-use std::{env, path::PathBuf, process::ExitCode};
-use tickets::{Kind, Rng};
+use std::{path::PathBuf, process::ExitCode};
+use tickets::{Kind, Rng, Words};
 
 const USAGE: &str = "\
 compare [OPTIONS]: compares ours with the original
@@ -47,27 +47,22 @@ impl Options {
             write: None,
             refusal: None,
         };
-        let mut words = env::args().skip(1);
-        while let Some(word) = words.next() {
-            let mut value = || words.next().ok_or(format!("{word} needs a value"));
+        let mut words = Words::of_program();
+        while let Some(word) = words.option() {
             match word.as_str() {
-                "--count" => options.count = number(&value()?)?,
-                "--seed" => options.seed = number(&value()?)?,
-                "--kind" => options.kinds.push(value()?),
-                "--samples" => options.samples = Some(value()?.into()),
-                "--show" => options.show = number(&value()?)?,
+                "--count" => options.count = words.number()?,
+                "--seed" => options.seed = words.number()?,
+                "--kind" => options.kinds.push(words.value()?),
+                "--samples" => options.samples = Some(words.value()?.into()),
+                "--show" => options.show = words.number()?,
                 "--self" => options.only_self = true,
-                "--write" => options.write = Some(value()?.into()),
-                "--refusal" => options.refusal = Some(number(&value()?)?),
+                "--write" => options.write = Some(words.value()?.into()),
+                "--refusal" => options.refusal = Some(words.number()?),
                 _ => return Err(format!("{word}: not an option\n{USAGE}")),
             }
         }
         Ok(options)
     }
-}
-
-fn number<N: std::str::FromStr>(word: &str) -> Result<N, String> {
-    word.parse().map_err(|_| format!("{word}: not a number"))
 }
 
 /// The random generator of a ticket.

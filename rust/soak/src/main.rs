@@ -1,72 +1,23 @@
 //! A long run over random and damaged tickets: guard bytes around the buffer,
 //! bytes that have to stay, the same answer twice, and the process's memory.
 //!
-//! `soak [--seconds N] [--seed N]`
+//! `soak [--seconds N] [--seed N] [--valgrind]`; under valgrind, whose own memory
+//! is most of the process's, memory is printed and not judged.
 
+mod lent;
+
+use lent::{Lent, ROOM};
 use std::{
     collections::BTreeMap,
-    env, fs,
+    fs,
     process::ExitCode,
     time::{Duration, Instant},
 };
-use tickets::{Kind, Rng};
-use wesknuft_lower::{lower, Refusal};
+use tickets::{Kind, Rng, Words};
 
-/// Bytes on either side of the buffer, and the largest buffer.
-const GUARD: usize = 4_096;
-const ROOM: usize = 65_536;
 /// Growth of memory behind the first minute or tenth of the run, in kB, that
 /// is not taken for noise.
 const NOISE: i64 = 4_096;
-
-/// A buffer between guards, with what it held before.
-struct Lent {
-    before: Vec<u8>,
-    after: Vec<u8>,
-}
-
-impl Lent {
-    fn new() -> Self {
-        let before = vec![0; ROOM + 2 * GUARD];
-        Self {
-            after: before.clone(),
-            before,
-        }
-    }
-
-    /// Fills the room and the guards, lowers, and looks at every byte that
-    /// has to stay as it was.
-    fn lower(&mut self, ticket: &[u8], room: usize, fill: u8) -> Result<Outcome, String> {
-        let all = room + 2 * GUARD;
-        for (at, byte) in self.before[..all].iter_mut().enumerate() {
-            *byte = fill ^ (at as u8).wrapping_mul(31);
-        }
-        self.after[..all].copy_from_slice(&self.before[..all]);
-        let answer = lower(ticket, &mut self.after[GUARD..GUARD + room]);
-        let written = match answer {
-            Ok(length) if length > room => return Err(format!("length {length} in room {room}")),
-            Ok(length) => length,
-            Err(refusal) => {
-                let known = matches!(refusal.number, 1..=10 | 20..=28);
-                if !known || refusal.line > 65_537 {
-                    return Err(format!("an answer of no meaning: {refusal:?}"));
-                }
-                0
-            }
-        };
-        let kept = [0..GUARD, GUARD + written..all]
-            .into_iter()
-            .all(|part| self.before[part.clone()] == self.after[part]);
-        match kept {
-            true => Ok(answer),
-            false => Err(format!(
-                "a byte outside the listing was written: {answer:?}"
-            )),
-        }
-    }
-}
-
-type Outcome = Result<usize, Refusal>;
 
 /// The process's memory in kB.
 fn resident() -> i64 {
@@ -93,106 +44,151 @@ fn some_ticket(rng: &mut Rng) -> Vec<u8> {
     }
 }
 
-fn options() -> Result<(u64, u64), String> {
-    let (mut seconds, mut seed) = (60, 1);
-    let mut words = env::args().skip(1);
-    while let Some(word) = words.next() {
-        let mut number = || {
-            let value = words.next().ok_or(format!("{word} needs a number"))?;
-            value
-                .parse::<u64>()
-                .map_err(|_| format!("{value}: not a number"))
+fn some_room(rng: &mut Rng) -> usize {
+    match rng.below(4) {
+        0 => ROOM,
+        1 => rng.below(ROOM),
+        _ => rng.below(2_000),
+    }
+}
+
+/// What is counted.
+#[derive(Default)]
+struct Counts {
+    tickets: u64,
+    bytes: u64,
+    faults: u64,
+    /// Tickets by the refusal's number, 0 for accepted ones.
+    outcomes: BTreeMap<u64, u64>,
+}
+
+/// Memory from the time on when the run is warm.
+#[derive(Default)]
+struct Memory {
+    base: Option<i64>,
+    peak: i64,
+}
+
+impl Counts {
+    /// One ticket, over two buffers that held other bytes.
+    fn try_ticket(&mut self, rng: &mut Rng, first: &mut Lent, second: &mut Lent) {
+        let ticket = some_ticket(rng);
+        let room = some_room(rng);
+        let fill = rng.draw() as u8;
+        self.tickets += 1;
+        self.bytes += ticket.len() as u64;
+        let once = first.lower(&ticket, room, fill);
+        let twice = second.lower(&ticket, room, !fill);
+        let fault = match (&once, &twice) {
+            (Ok(Ok(length)), Ok(Ok(again))) if length == again => (first.listing(*length)
+                != second.listing(*length))
+            .then(|| "two listings of one ticket".to_string()),
+            (Ok(a), Ok(b)) if a == b => None,
+            (Err(fault), _) | (_, Err(fault)) => Some(fault.clone()),
+            _ => Some(format!("two answers to one ticket: {once:?}, {twice:?}")),
         };
-        match word.as_str() {
-            "--seconds" => seconds = number()?,
-            "--seed" => seed = number()?,
-            _ => return Err("soak [--seconds N] [--seed N]".into()),
+        if let Some(fault) = fault {
+            self.faults += 1;
+            println!("FAULT: {fault}\n{}", ticket.escape_ascii());
+        }
+        if let Ok(outcome) = once {
+            let number = outcome.err().map_or(0, |refusal| refusal.number);
+            *self.outcomes.entry(number).or_default() += 1;
         }
     }
-    Ok((seconds, seed))
+
+    fn print(&self, took: Duration) {
+        let rate = self.tickets as f64 / took.as_secs_f64();
+        println!(
+            "{} tickets, each twice; {} bytes; {rate:.0} tickets a second",
+            self.tickets, self.bytes
+        );
+        for (number, count) in &self.outcomes {
+            match number {
+                0 => println!("  accepted: {count}"),
+                _ => println!("  refused {number}: {count}"),
+            }
+        }
+    }
+}
+
+impl Memory {
+    fn look(&mut self, warm: bool) -> i64 {
+        let now = resident();
+        if warm {
+            self.base.get_or_insert(now);
+            self.peak = self.peak.max(now);
+        }
+        now
+    }
+
+    /// Says how it went, and whether it grew.
+    fn grew(&self) -> bool {
+        let last = resident();
+        let base = self.base.unwrap_or(last);
+        let peak = self.peak;
+        println!("memory: {base} kB when warm, {peak} kB at most, {last} kB at the end");
+        last - base > NOISE
+    }
+}
+
+struct Options {
+    seconds: u64,
+    seed: u64,
+    valgrind: bool,
+}
+
+fn read_options() -> Result<Options, String> {
+    let mut options = Options {
+        seconds: 60,
+        seed: 1,
+        valgrind: false,
+    };
+    let mut words = Words::of_program();
+    while let Some(word) = words.option() {
+        match word.as_str() {
+            "--seconds" => options.seconds = words.number()?,
+            "--seed" => options.seed = words.number()?,
+            "--valgrind" => options.valgrind = true,
+            _ => return Err("soak [--seconds N] [--seed N] [--valgrind]".into()),
+        }
+    }
+    Ok(options)
 }
 
 /// Whether all went well.
 fn run() -> Result<bool, String> {
-    let (seconds, seed) = options()?;
-    let whole = Duration::from_secs(seconds);
+    let options = read_options()?;
+    let whole = Duration::from_secs(options.seconds);
     let warm = (whole / 10).min(Duration::from_secs(60));
     let step = (whole / 20).max(Duration::from_secs(1));
-    let mut rng = Rng::new(seed);
+    let mut rng = Rng::new(options.seed);
     let (mut first, mut second) = (Lent::new(), Lent::new());
-    let mut outcomes: BTreeMap<u64, u64> = BTreeMap::new();
-    let (mut tickets, mut bytes, mut faults) = (0u64, 0u64, 0u64);
-    let (mut base, mut peak) = (None, 0);
+    let (mut counts, mut memory) = (Counts::default(), Memory::default());
+    // What the generators keep is made before memory is watched.
     tickets::limits();
 
     let start = Instant::now();
     let mut next = step;
     while start.elapsed() < whole {
         for _ in 0..100 {
-            let ticket = some_ticket(&mut rng);
-            let room = match rng.below(4) {
-                0 => ROOM,
-                1 => rng.below(ROOM),
-                _ => rng.below(2_000),
-            };
-            tickets += 1;
-            bytes += ticket.len() as u64;
-            let fill = rng.draw() as u8;
-            let once = first.lower(&ticket, room, fill);
-            let twice = second.lower(&ticket, room, !fill);
-            let fault = match (&once, &twice) {
-                (Ok(Ok(length)), Ok(Ok(again))) if length == again => {
-                    let listing = GUARD..GUARD + length;
-                    (first.after[listing.clone()] != second.after[listing])
-                        .then(|| "two listings of one ticket".to_string())
-                }
-                (Ok(a), Ok(b)) if a == b => None,
-                (Err(fault), _) | (_, Err(fault)) => Some(fault.clone()),
-                _ => Some(format!("two answers to one ticket: {once:?}, {twice:?}")),
-            };
-            if let Some(fault) = fault {
-                faults += 1;
-                println!("FAULT: {fault}\n{}", ticket.escape_ascii());
-            }
-            if let Ok(outcome) = once {
-                let number = outcome.err().map_or(0, |refusal| refusal.number);
-                *outcomes.entry(number).or_default() += 1;
-            }
+            counts.try_ticket(&mut rng, &mut first, &mut second);
         }
-        let memory = resident();
-        if start.elapsed() >= warm {
-            base.get_or_insert(memory);
-            peak = peak.max(memory);
-        }
+        let now = memory.look(start.elapsed() >= warm);
         if start.elapsed() >= next {
             next += step;
-            println!(
-                "{:6.0} s {tickets:10} tickets {:8.1} MB, memory {memory} kB",
-                start.elapsed().as_secs_f64(),
-                bytes as f64 / 1e6,
-            );
+            let (time, tickets) = (start.elapsed().as_secs_f64(), counts.tickets);
+            println!("{time:6.0} s {tickets:10} tickets, memory {now} kB");
         }
     }
 
-    let base = base.unwrap_or_else(resident);
-    let last = resident();
-    println!(
-        "{tickets} tickets, each twice; {bytes} bytes; {:.0} tickets a second",
-        tickets as f64 / start.elapsed().as_secs_f64()
-    );
-    for (number, count) in &outcomes {
-        match number {
-            0 => println!("  accepted: {count}"),
-            _ => println!("  refused {number}: {count}"),
-        }
-    }
-    println!("memory: {base} kB when warm, {peak} kB at most, {last} kB at the end");
-    println!("{faults} faults");
-    let grows = last - base > NOISE;
-    if grows {
+    counts.print(start.elapsed());
+    let grew = memory.grew() && !options.valgrind;
+    println!("{} faults", counts.faults);
+    if grew {
         println!("MEMORY GROWS");
     }
-    Ok(faults == 0 && !grows)
+    Ok(counts.faults == 0 && !grew)
 }
 
 fn main() -> ExitCode {

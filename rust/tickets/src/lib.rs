@@ -5,10 +5,12 @@ mod build;
 mod damage;
 mod limits;
 mod random;
+mod words;
 
 pub use damage::damage;
 pub use limits::{accepted_at_limits, limits, padded};
 pub use random::Rng;
+pub use words::Words;
 
 use build::{Builder, Style};
 use std::{fmt, str::FromStr};

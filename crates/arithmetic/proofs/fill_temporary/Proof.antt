@@ -4,7 +4,8 @@ use native.Mathlib.Omega.{arith}
 use Rattle.emission.specs.Appends.{room-less}
 use Rattle.emission.specs.Emits.{room-allocated}
 use Rattle.emission.specs.Does.{does-more}
-use Rattle.arithmetic.proofs.Laws.{meets-done, meets-refused, temporary-placed, temporary-refused, with-size, filled-bool, filled-nowhere, filled-refuses, filled-does}
+use Rattle.emission.specs.Temporaries.{temporary-placed, temporary-refused}
+use Rattle.arithmetic.proofs.Laws.{meets-done, meets-refused, with-size, filled-bool, filled-nowhere, filled-refuses, filled-does}
 use Rattle.arithmetic.proofs.fill_temporary.Statement.{statement}
 use Rattle.arithmetic.proofs.fill_temporary.Tie as tie
 

@@ -7,11 +7,11 @@ use Rattle.compiler.proofs.lower.Tie as tie
 returns : tie.Need-returns
 returns c = answer-unread (c .before .before .before .args .ticket .now) _ _ 1 0 (text-too-long (c .before .before .before .args .ticket .now) (c .if1 .taken))
 
-lower-short-requires : tie.Need-lower-short-requires
-lower-short-requires c κs = search needs
+room-for-requires : tie.Need-room-for-requires
+room-for-requires c κs = search needs
 
-lower-long-requires : tie.Need-lower-long-requires
-lower-long-requires c κs = search needs
+lower-within-requires : tie.Need-lower-within-requires
+lower-within-requires c κs = search needs
 
 same-length : tie.Need-same-length
 same-length c = search needs
@@ -19,20 +19,6 @@ same-length c = search needs
 returns-2 : tie.Need-returns-2
 returns-2 c = search needs
 
-same-length-2 : tie.Need-same-length-2
-same-length-2 c = search needs
-
-returns-3 : tie.Need-returns-3
-returns-3 c = search needs
-
 pub lower-spec : {M : Type 1} → statement M
 lower-spec =
-    tie.close
-    (tie.spec
-    returns
-    lower-short-requires
-    lower-long-requires
-    same-length
-    returns-2
-    same-length-2
-    returns-3)
+    tie.close (tie.spec returns room-for-requires lower-within-requires same-length returns-2)

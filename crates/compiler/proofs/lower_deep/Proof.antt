@@ -1,7 +1,6 @@
--- A ticket's weights are bounded. Assumes nothing.
+-- A ticket's weights are bounded, and it has few storages. Assumes nothing.
 use borrow.Author.Needs.{needs}
-use native.Mathlib.Omega.{arith}
-use Rattle.compiler.proofs.Laws.{zeros, ready-deep}
+use Rattle.compiler.proofs.Laws.{cleared, few-records, few-storages}
 use Rattle.compiler.proofs.lower_deep.Statement.{statement}
 use Rattle.compiler.proofs.lower_deep.Tie as tie
 
@@ -11,8 +10,14 @@ slice-aggregate-lower-tables c = search needs
 slice-aggregate-lower-tables-2 : tie.Need-slice-aggregate-lower-tables-2
 slice-aggregate-lower-tables-2 c = search needs
 
+slice-aggregate-lower-tables-3 : tie.Need-slice-aggregate-lower-tables-3
+slice-aggregate-lower-tables-3 c = search needs
+
+slice-aggregate-lower-tables-4 : tie.Need-slice-aggregate-lower-tables-4
+slice-aggregate-lower-tables-4 c = search needs
+
 lower-tables-requires : tie.Need-lower-tables-requires
-lower-tables-requires c κs = (ready-deep (c .before .before .before .before .before .before .before .pre) (omega arith), omega arith, λ i. zeros 256 i)
+lower-tables-requires c κs = cleared (c .before .before .before .before .before .before .before .before .before .args .rows .now) (c .before .before .before .before .before .before .before .before .before .args .nodes .now) (c .before .before .before .before .before .before .before .before .before .args .lists .now) (c .before .before .before .before .before .before .before .before .before .args .counts) (c .before .before .before .before .before .before .before .before .before .pre) 2048 256 (few-records (c .before .before .before .before .before .before .before .before .before .args .rows .now) (c .before .before .before .before .before .before .before .before .before .args .nodes .now) (c .before .before .before .before .before .before .before .before .before .args .lists .now) (c .before .before .before .before .before .before .before .before .before .args .counts) (c .before .before .before .before .before .before .before .before .before .pre)) (few-storages (c .before .before .before .before .before .before .before .before .before .args .rows .now) (c .before .before .before .before .before .before .before .before .before .args .nodes .now) (c .before .before .before .before .before .before .before .before .before .args .lists .now) (c .before .before .before .before .before .before .before .before .before .args .counts) (c .before .before .before .before .before .before .before .before .before .pre))
 
 same-length : tie.Need-same-length
 same-length c = search needs
@@ -26,6 +31,8 @@ lower-deep-spec =
     (tie.spec
     slice-aggregate-lower-tables
     slice-aggregate-lower-tables-2
+    slice-aggregate-lower-tables-3
+    slice-aggregate-lower-tables-4
     lower-tables-requires
     same-length
     returns)

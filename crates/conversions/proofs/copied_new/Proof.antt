@@ -1,8 +1,9 @@
 -- `conversions::copied_new` meets its contract: a new temporary, or its refusal. Assumes nothing.
 use borrow.Author.Needs.{needs}
 use native.Mathlib.Omega.{arith}
+use Rattle.emission.specs.Temporaries.{temporary-placed, temporary-refused}
 use Rattle.reads.specs.Reading.{at-of}
-use Rattle.conversions.proofs.Laws.{room-new, placed, not-placed, new-stops, new-meets}
+use Rattle.conversions.proofs.Laws.{room-new, new-stops, new-meets}
 use Rattle.conversions.specs.Converting.{copied-new}
 use Rattle.conversions.proofs.copied_new.Statement.{statement}
 use Rattle.conversions.proofs.copied_new.Tie as tie
@@ -17,14 +18,14 @@ enum-known-new : tie.Need-enum-known-new
 enum-known-new c = search needs
 
 copied-requires : tie.Need-copied-requires
-copied-requires c κs = (c .before .before .before .before .before .before .before .before .before .before .before .before .before .before .before .before .before .before .before .pre .0, c .before .before .before .before .before .before .before .before .before .before .before .before .before .before .before .before .before .before .before .pre .1, room-new (c .before .before .before .before .before .before .before .before .before .before .before .before .before .before .before .before .before .before .before .pre .2) (placed (c .before .before .before .before .before .before .before .before .before .before .temporary .ensures) (c .before .before .before .before .before .before .new .given .1)))
+copied-requires c κs = (c .before .before .before .before .before .before .before .before .before .before .before .before .before .before .before .before .before .before .before .pre .0, c .before .before .before .before .before .before .before .before .before .before .before .before .before .before .before .before .before .before .before .pre .1, room-new (c .before .before .before .before .before .before .before .before .before .before .before .before .before .before .before .before .before .before .before .pre .2) (temporary-placed (c .before .before .before .before .before .before .before .before .before .before .temporary .ensures) (c .before .before .before .before .before .before .new .given .1)))
 
 same-length : tie.Need-same-length
 same-length c = search needs
 
 returns : tie.Need-returns
 unfolding copied-new
-returns c = λ m. new-stops (at-of (c .before .before .before .before .before .before .before .before .before .before .before .before .before .before .args .h)) _ (not-placed (c .before .before .before .before .before .temporary .ensures) (c .before .n .given .1))
+returns c = λ m. new-stops (at-of (c .before .before .before .before .before .before .before .before .before .before .before .before .before .before .args .h)) _ (temporary-refused (c .before .before .before .before .before .temporary .ensures) (c .before .n .given .1))
 
 same-length-2 : tie.Need-same-length-2
 same-length-2 c = search needs
@@ -37,7 +38,7 @@ same-length-4 c = search needs
 
 returns-2 : tie.Need-returns-2
 unfolding copied-new
-returns-2 c = λ m. new-meets (at-of (c .before .before .before .before .before .before .before .before .before .before .before .before .before .before .before .before .before .before .before .before .before .before .before .before .before .before .args .h)) m _ _ (omega (arith, c .before .before .before .before .before .before .before .before .before .before .before .before .before .before .before .before .before .before .before .before .before .before .before .before .before .before .good .1 .1 .1 .1 .0)) (omega (arith, c .before .before .before .before .before .before .before .before .before .before .before .before .before .before .before .before .before .before .before .before .before .before .before .before .before .before .good .1 .1 .1 .1 .1 .1 .1 .0)) (placed (c .before .before .before .before .before .before .before .before .before .before .before .before .before .before .before .before .before .temporary .ensures) (c .before .before .before .before .before .before .before .before .before .before .before .before .before .new .given .1)) (c .before .before .before .before .before .before .copied .ensures m)
+returns-2 c = λ m. new-meets (at-of (c .before .before .before .before .before .before .before .before .before .before .before .before .before .before .before .before .before .before .before .before .before .before .before .before .before .before .args .h)) m _ _ (omega (arith, c .before .before .before .before .before .before .before .before .before .before .before .before .before .before .before .before .before .before .before .before .before .before .before .before .before .before .good .1 .1 .1 .1 .0)) (omega (arith, c .before .before .before .before .before .before .before .before .before .before .before .before .before .before .before .before .before .before .before .before .before .before .before .before .before .before .good .1 .1 .1 .1 .1 .1 .1 .0)) (temporary-placed (c .before .before .before .before .before .before .before .before .before .before .before .before .before .before .before .before .before .temporary .ensures) (c .before .before .before .before .before .before .before .before .before .before .before .before .before .new .given .1)) (c .before .before .before .before .before .before .copied .ensures m)
 
 pub copied-new-spec : {M : Type 1} → statement M
 copied-new-spec =

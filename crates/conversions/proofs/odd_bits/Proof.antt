@@ -1,7 +1,7 @@
 -- `conversions::odd_bits` meets its contract: a width's rest by 8. Assumes nothing.
 use borrow.Author.Needs.{needs}
 use native.Mathlib.Omega.{arith}
-use Rattle.conversions.proofs.Laws.{odd-width}
+use Rattle.emission.specs.Forms.{odd-width}
 use Rattle.conversions.proofs.odd_bits.Statement.{statement}
 use Rattle.conversions.proofs.odd_bits.Tie as tie
 

@@ -1,11 +1,10 @@
 -- `emission::rotates_or_shift` meets its contract: by the definition's own test.
 use mathlib.Core.Path.{sym, _∙_}
-use Prim.Native.Nat.{_-_}
 use native.Mathlib.Omega.{arith}
 use borrow.Author.Needs.{needs}
 use Rattle.lir.specs.Abstract.{shift-op-of, destinations-of, bytes-of}
 use Rattle.emission.specs.Loops.{turned-one, shift-turned, shift-whole, first-from}
-use Rattle.emission.specs.Tabs.{length-from}
+use Rattle.spec.proofs.Lengths.{length-bytes-from}
 use Rattle.emission.specs.Operands.{length-bytes}
 use Rattle.emission.specs.Appends.{room-less}
 use Rattle.emission.proofs.rotates_or_shift.Statement.{statement}
@@ -15,7 +14,7 @@ byte-rotate-requires : tie.Need-byte-rotate-requires
 byte-rotate-requires c κs = search needs
 
 rotate-by-constant-requires : tie.Need-rotate-by-constant-requires
-rotate-by-constant-requires c κs = let t = turned-one (shift-op-of (c .before .before .before .before .args .op)) (c .before .before .before .before .args .width) (destinations-of (c .before .before .before .before .args .d)) (bytes-of (c .before .before .before .before .args .l)) (bytes-of (c .before .before .before .before .args .r)) (sym (c .before .before .byte-rotate .ensures) ∙ c .before .if1 .taken) in (c .before .before .before .before .pre .0, c .before .before .before .before .pre .1, omega (arith, t .1, length-bytes (c .before .before .before .before .args .l)), room-less (omega (arith, t .0, length-from (c .before .before .before .before .args .d .storage .0) 0 (c .before .before .before .before .args .d .count))) (c .before .before .before .before .pre .3))
+rotate-by-constant-requires c κs = let t = turned-one (shift-op-of (c .before .before .before .before .args .op)) (c .before .before .before .before .args .width) (destinations-of (c .before .before .before .before .args .d)) (bytes-of (c .before .before .before .before .args .l)) (bytes-of (c .before .before .before .before .args .r)) (sym (c .before .before .byte-rotate .ensures) ∙ c .before .if1 .taken) in (c .before .before .before .before .pre .0, c .before .before .before .before .pre .1, omega (arith, t .1, length-bytes (c .before .before .before .before .args .l)), room-less (omega (arith, t .0, length-bytes-from (c .before .before .before .before .args .d .storage .0) 0 (c .before .before .before .before .args .d .count))) (c .before .before .before .before .pre .3))
 
 whole-shift-requires : tie.Need-whole-shift-requires
 whole-shift-requires c κs = search needs
@@ -24,7 +23,7 @@ same-length : tie.Need-same-length
 same-length c = search needs
 
 returns : tie.Need-returns
-returns c = let h = sym (c .before .before .before .before .before .byte-rotate .ensures) ∙ c .before .before .before .before .if1 .taken in let t = turned-one (shift-op-of (c .before .before .before .before .before .before .before .args .op)) (c .before .before .before .before .before .before .before .args .width) (destinations-of (c .before .before .before .before .before .before .before .args .d)) (bytes-of (c .before .before .before .before .before .before .before .args .l)) (bytes-of (c .before .before .before .before .before .before .before .args .r)) h in rw (shift-turned _ _ _ _ _ _ (c .before .before .before .before .before .before .before .pre .2) h, first-from (c .before .before .before .before .before .before .before .args .d .storage .0) (c .before .before .before .before .before .before .before .args .d .count) (omega (arith, t .0, length-from (c .before .before .before .before .before .before .before .args .d .storage .0) 0 (c .before .before .before .before .before .before .before .args .d .count)))) (c .before .before .rotate-by-constant .ensures)
+returns c = let h = sym (c .before .before .before .before .before .byte-rotate .ensures) ∙ c .before .before .before .before .if1 .taken in let t = turned-one (shift-op-of (c .before .before .before .before .before .before .before .args .op)) (c .before .before .before .before .before .before .before .args .width) (destinations-of (c .before .before .before .before .before .before .before .args .d)) (bytes-of (c .before .before .before .before .before .before .before .args .l)) (bytes-of (c .before .before .before .before .before .before .before .args .r)) h in rw (shift-turned _ _ _ _ _ _ (c .before .before .before .before .before .before .before .pre .2) h, first-from (c .before .before .before .before .before .before .before .args .d .storage .0) (c .before .before .before .before .before .before .before .args .d .count) (omega (arith, t .0, length-bytes-from (c .before .before .before .before .before .before .before .args .d .storage .0) 0 (c .before .before .before .before .before .before .before .args .d .count)))) (c .before .before .rotate-by-constant .ensures)
 
 same-length-2 : tie.Need-same-length-2
 same-length-2 c = search needs

@@ -1,80 +1,101 @@
-use native.Mathlib.Omega.{arith}
-use mathlib.Core.Path.{refl, _∙_}
-use mathlib.Core.Path.{_≡_}
-use Prim.Native.Nat.{_≤_, _-_, _<_, _+_, _*_, _^_}
-use lib.ListN.{length, drop, getD}
+use Prim.Native.Nat.{_+_, _-_}
+use lib.ListN.{length}
 use borrow.Author.Needs.{needs}
-use Rattle.tables.specs.Tables.{run}
-use Rattle.fields.specs.Fields.{numbers-of, fields-from, onto, Kept}
-use Rattle.fields.proofs.Lines.{list-start, list-end, list-broken, list-more, value-ahead}
-use Rattle.fields.proofs.Tabs.{kept-put, kept-all, length-put}
+use native.Mathlib.Omega.{arith}
+use mathlib.Core.Logic.{⊎-elim}
+use Rattle.fields.proofs.Lines.{Gone, gone-none, gone-more, gone-broken, gone-end, value-ahead}
 use Rattle.fields.proofs.numbers.Statement.{statement}
 use Rattle.fields.proofs.numbers.Tie as tie
 use Rattle.fields.proofs.numbers.Reads as reads
 use Rattle.fields.proofs.numbers.Lts as lts
+use Rattle.fields.proofs.lone.Reads as lone-reads
 use Rattle.fields.proofs.number.Reads as number-reads
 
 abbrev Inv-loop : tie.InvT-loop
-Inv-loop line lists₀ used c₀ n₀ at₀ lists c n at = (at ≡ c .at) × (c₀ .at + n * 2 ≤ at) × (at ≤ length line + 1) × (length lists ≡ length lists₀) × (numbers-of (fields-from line (c₀ .at)) ≡ onto (run lists used n) (numbers-of (fields-from line (c .at)))) × Kept used lists₀ lists
+Inv-loop line lists₀ used n₀ at₀ lists n at = Gone line lists₀ used at₀ lists n at
 
 abbrev μ-loop : tie.MeasureT-loop
-μ-loop line lists₀ used c₀ n₀ at₀ lists c n at = length line + 1 - at
+μ-loop line lists₀ used n₀ at₀ lists n at = length line + 1 - n
 
--- src/lib.rt:133:5
+-- src/lib.rt:212:5
 loop-holds : tie.Need-loop-holds Inv-loop μ-loop
-loop-holds c = (refl, search needs, search needs, refl, list-start _ _ _ _, kept-all _ _)
+loop-holds c = gone-none _ _ _ _ (search needs)
 
--- src/lib.rt:134:39
+-- src/lib.rt:213:18
+add-to : tie.Need-add-to Inv-loop μ-loop
+add-to c = search needs
+
+-- src/lib.rt:214:13
+lone-requires : tie.Need-lone-requires Inv-loop μ-loop
+lone-requires c κs = search needs
+
+-- src/lib.rt:216:25
+cast-lists : tie.Need-cast-lists Inv-loop μ-loop
+cast-lists c = search needs
+
+-- src/lib.rt:216:13
+mul-lists : tie.Need-mul-lists Inv-loop μ-loop
+mul-lists c = search needs
+
+-- src/lib.rt:216:13
+slice-write-lists : tie.Need-slice-write-lists Inv-loop μ-loop
+slice-write-lists c = omega (arith, (c .before .lone .ensures .right (c .if1 .taken)) .ahead)
+
+-- src/lib.rt:217:13
+add-at : tie.Need-add-at Inv-loop μ-loop
+add-at c = search needs
+
+-- src/lib.rt:219:43
 number-requires : tie.Need-number-requires Inv-loop μ-loop
 number-requires c κs = search needs
 
--- src/lib.rt:134:28
+-- src/lib.rt:219:32
 enum-known-v : tie.Need-enum-known-v Inv-loop μ-loop
 enum-known-v c = search needs
 
--- src/lib.rt:135:13
+-- src/lib.rt:220:17
 enum-told : tie.Need-enum-told Inv-loop μ-loop
 enum-told c = search needs
 
--- src/lib.rt:135:13
+-- src/lib.rt:220:17
 same-length : tie.Need-same-length Inv-loop μ-loop
 same-length c = search needs
 
--- src/lib.rt:135:13
+-- src/lib.rt:220:17
 returns : tie.Need-returns Inv-loop μ-loop
-returns c = let l : c .before .before .before .before .loop .c .at ≤ length (c .before .before .before .before .before .before .before .args .line .now) = omega arith in record { answer = list-broken _ _ _ _ _ _ (c .before .before .before .before .loop .inv .4) (c .before .before .number .result) l (c .before .before .number .ensures) (search needs); fewer = tt; kept = c .before .before .before .before .loop .inv .5 }
+returns c = gone-broken _ _ _ _ _ _ _ (c .before .before .before .before .before .before .loop .inv) (c .before .before .number .result) (search needs) (c .before .before .number .ensures) (search needs)
 
--- src/lib.rt:137:18
-add-to : tie.Need-add-to Inv-loop μ-loop
-add-to c = let a = value-ahead _ _ (c .before .before .before .number .result) _ _ (c .before .before .before .number .ensures) (c .before .v .given .1) in record { fits = omega arith }
+-- src/lib.rt:222:13
+mul-lists-2 : tie.Need-mul-lists-2 Inv-loop μ-loop
+mul-lists-2 c = search needs
 
--- src/lib.rt:138:9
-mul-lists : tie.Need-mul-lists Inv-loop μ-loop
-mul-lists c = let a = value-ahead _ _ (c .before .before .before .number .result) _ _ (c .before .before .before .number .ensures) (c .before .v .given .1) in record { fits = omega arith }
+-- src/lib.rt:222:13
+slice-write-lists-2 : tie.Need-slice-write-lists-2 Inv-loop μ-loop
+slice-write-lists-2 c = let a = value-ahead _ _ (c .before .before .before .number .result) _ _ (c .before .before .before .number .ensures) (c .before .v .given .1) in omega arith
 
--- src/lib.rt:138:9
-slice-write-lists : tie.Need-slice-write-lists Inv-loop μ-loop
-slice-write-lists c = let a = value-ahead _ _ (c .before .before .before .number .result) _ _ (c .before .before .before .number .ensures) (c .before .v .given .1) in omega arith
-
--- src/lib.rt:139:9
+-- src/lib.rt:225:9
 add-n : tie.Need-add-n Inv-loop μ-loop
-add-n c = let a = value-ahead _ _ (c .before .before .before .number .result) _ _ (c .before .before .before .number .ensures) (c .before .v .given .1) in record { fits = omega arith }
+add-n c = search needs
 
--- src/lib.rt:133:5
+-- src/lib.rt:212:5
 loop-less : tie.Need-loop-less Inv-loop μ-loop
-loop-less c = let a = value-ahead _ _ (c .before .before .before .number .result) _ _ (c .before .before .before .number .ensures) (c .before .v .given .1) in omega arith
+loop-less c = search needs
 
--- src/lib.rt:133:5
+-- src/lib.rt:212:5
 loop-again : tie.Need-loop-again Inv-loop μ-loop
-loop-again c = let a = value-ahead _ _ (c .before .before .before .number .result) _ _ (c .before .before .before .number .ensures) (c .before .v .given .1) in let l : c .before .before .before .before .before .before .before .before .args .used + c .before .before .before .before .before .loop .n < length (c .before .before .before .before .before .loop .lists) = omega arith in (refl, omega arith, omega arith, search (length-put, needs), list-more _ _ _ _ _ _ (c .before .before .before .before .before .loop .inv .4) (c .before .before .before .number .result) _ _ (c .before .before .before .number .ensures) (c .before .v .given .1) l, kept-put _ _ _ _ _ (c .before .before .before .before .before .loop .inv .5) (omega arith))
+loop-again c =
+    ⊎-elim
+    (λ w. rw (w .1, w .2) (gone-more _ _ _ _ _ _ _ (c .before .before .before .loop .inv) _ _ (search needs) (c .before .lone .ensures .right (w .0 .taken))))
+    (λ w. rw (w .5, w .6) (gone-more _ _ _ _ _ _ _ (c .before .before .before .loop .inv) _ _ (search needs) (rw (w .3 .given .1) at (w .1 .ensures))))
+    (c .if1 .came)
 
--- src/lib.rt:126:1
+-- src/lib.rt:206:1
 same-length-2 : tie.Need-same-length-2 Inv-loop μ-loop
 same-length-2 c = search needs
 
--- src/lib.rt:126:1
+-- src/lib.rt:206:1
 returns-2 : tie.Need-returns-2 Inv-loop μ-loop
-returns-2 c = record { answer = list-end _ _ _ _ _ _ (c .before .loop .inv .4) (omega arith); fewer = omega arith; kept = c .before .loop .inv .5 }
+returns-2 c = search (gone-end, needs)
 
 pub numbers-spec : {M : Type 1} → statement M
 numbers-spec =
@@ -83,14 +104,19 @@ numbers-spec =
     Inv-loop
     μ-loop
     loop-holds
+    add-to
+    lone-requires
+    cast-lists
+    mul-lists
+    slice-write-lists
+    add-at
     number-requires
     enum-known-v
     enum-told
     same-length
     returns
-    add-to
-    mul-lists
-    slice-write-lists
+    mul-lists-2
+    slice-write-lists-2
     add-n
     loop-less
     loop-again

@@ -1,6 +1,6 @@
 use mathlib.Core.Path.{_≡_}
-use Prim.Native.Nat.{_≤_, _-_, _<_, _+_, _*_, _^_}
-use lib.ListN.{length, drop, getD}
+use Prim.Native.Nat.{_≤_, _-_}
+use lib.ListN.{length, drop}
 use borrow.Author.Needs.{needs}
 use Rattle.spec.specs.Text.{same}
 use Rattle.fields.proofs.Tabs.{same-laws}

@@ -1,5 +1,5 @@
--- The cycle of `lower_expression` meets its contracts together: the depth falls with each node, and at one depth the number of parts. Assumes nothing.
-use Prim.Native.Nat.{ℕ, _<_, _+_, _-_}
+-- The cycle of `lower_expression` meets its contracts together: the depth falls with each node, and at one depth a number for each function. Assumes nothing.
+use Prim.Native.Nat.{ℕ, _<_}
 use borrow.Fn.Kinds.{In}
 use borrow.Fn.PlainCycle.{Measures, is, falls, and}
 use native.Mathlib.Omega.{arith}
@@ -11,8 +11,9 @@ use Rattle.tables.proofs.Laws.{readable-sized, tree-none}
 use Rattle.values.specs.Left.{bufs, value-done, bit-done}
 use Rattle.reads.specs.Reading.{at-of}
 use Rattle.lowering.proofs.FormLaws.{found-room, found-meets}
-use Rattle.lowering.proofs.RoomLaws.{leaf-room, one-room, one-top, one-ready, two-room, two-top, second-room, two-ready, select-room, select-top, other-room, condition-room, select-ready, bit-room, tree-top, list-room, few-parts, head-fits, first-room, rest-room}
-use Rattle.lowering.proofs.CycleLaws.{rank, rank-down, rank-same, one-refused, one-meets, two-refused, second-refused, both-meet, first-refused, other-refused, condition-refused, choice-meets, operand-refused, bit-meets, gathered-meets, no-parts, part-refused, part-meets}
+use Rattle.lowering.proofs.RoomLaws.{leaf-room, one-room, one-top, one-ready, two-room, two-top, second-room, two-ready, select-room, select-top, other-room, condition-room, select-ready, bit-room, tree-top, list-room}
+use Rattle.lowering.proofs.CycleLaws.{rank, rank-down, rank-same, one-refused, one-meets, two-refused, second-refused, both-meet, first-refused, other-refused, condition-refused, choice-meets, operand-refused, bit-meets, gathered-meets}
+use Rattle.lowering.proofs.ListLaws.{Rest, rest-all, rest-none, rest-fits, rest-first, rest-refused, rest-more}
 use Rattle.lowering.proofs.expression_as_bit.Reads as expression-as-bit
 use Rattle.lowering.proofs.expression_as_bit.Kinds as expression-as-bit-kinds
 use Rattle.lowering.proofs.+expression_as_bit+lower_aggregate+lower_expression+lower_list+lower_one+lower_select+lower_two.Lts-expression_as_bit as expression-as-bit-lts
@@ -56,13 +57,13 @@ abbrev μ-expression-as-bit : Measures 7 expression-as-bit-kinds.ps ℕ
 μ-expression-as-bit κs a = rank (a .1 .1 .1 .1 .1 .1 .1 .1 .1 .1 .0) 1
 
 abbrev μ-lower-aggregate : Measures 7 lower-aggregate-kinds.ps ℕ
-μ-lower-aggregate κs a = rank (a .1 .1 .1 .1 .1 .1 .1 .1 .1 .1 .1 .0) (2 + a .1 .1 .1 .1 .1 .1 .1 .1 .1 .1 .0)
+μ-lower-aggregate κs a = rank (a .1 .1 .1 .1 .1 .1 .1 .1 .1 .1 .1 .0) 2
 
 abbrev μ-lower-expression : Measures 7 lower-expression-kinds.ps ℕ
 μ-lower-expression κs a = rank (a .1 .1 .1 .1 .1 .1 .1 .1 .1 .1 .0) 0
 
 abbrev μ-lower-list : Measures 7 lower-list-kinds.ps ℕ
-μ-lower-list κs a = rank (a .1 .1 .1 .1 .1 .1 .1 .1 .1 .1 .1 .1 .0) (1 + a .1 .1 .1 .1 .1 .1 .1 .1 .1 .1 .1 .0)
+μ-lower-list κs a = rank (a .1 .1 .1 .1 .1 .1 .1 .1 .1 .1 .1 .1 .0) 1
 
 abbrev μ-lower-one : Measures 7 lower-one-kinds.ps ℕ
 μ-lower-one κs a = rank (a .1 .1 .1 .1 .1 .1 .1 .1 .1 .1 .1 .0) 1
@@ -165,7 +166,7 @@ abbrev lower-expression-calls : ℕ → lower-expression-lts.Claims
 lower-expression-calls t = (lower-null-reads.Asked, lower-null-reads.Learnt, find-node-reads.Asked, find-node-reads.Learnt, lower-leaf-reads.Asked, lower-leaf-reads.Learnt, lower-one-below t, lower-one.Post, lower-two-below t, lower-two.Post, lower-select-below t, lower-select.Post, lower-aggregate-below t, lower-aggregate.Post)
 
 abbrev lower-list-calls : ℕ → lower-list-lts.Claims
-lower-list-calls t = (list-at-reads.Asked, list-at-reads.Learnt, at-top-reads.Asked, at-top-reads.Learnt, lower-expression-below t, lower-expression.Post, store-head-reads.Asked, store-head-reads.Learnt, lower-list-below t, lower-list.Post)
+lower-list-calls t = (list-at-reads.Asked, list-at-reads.Learnt, at-top-reads.Asked, at-top-reads.Learnt, lower-expression-below t, lower-expression.Post, store-head-reads.Asked, store-head-reads.Learnt)
 
 abbrev lower-one-calls : ℕ → lower-one-lts.Claims
 lower-one-calls t = (lower-expression-below t, lower-expression.Post, one-step-reads.Asked, one-step-reads.Learnt)
@@ -222,7 +223,7 @@ expression-as-bit-returns-2 : (t : ℕ) → expression-as-bit-lts.Need-returns-2
 expression-as-bit-returns-2 t c = let a = c .before .before .before .before .before .before .before .before .before .before .before .before .before .before .before .before .before .before .before .before .before .before .before .before .before .before .before .before .before .before .before .args in let T = tables-of (a .rows .now) (a .nodes .now) (a .lists .now) (a .counts) in let S = c .before .before .before .before .before .before .before .before .before .before .before .before .before .before .before .before .before .before .before .before .before .before .before .before .before .before .before .before .before .before .before .pre .1 .0 in let R = S .types in let Q = c .before .before .before .before .before .before .before .before .before .before .before .before .before .before .before .before .before .before .before .before .before .before .before .before .before .before .before .before .before .before .before .pre .1 .1 in let x = value-done (c .before .before .before .before .before .before .before .before .before .before .before .before .before .before .before .before .before .before .before .lower-expression .ensures) (c .before .before .before .before .before .before .before .before .before .v .given .1) in bit-meets T (a .depth) (at-of (a .h)) (a .k) x (tree-top T R (a .depth) (a .k) Q) (c .before .before .before .before .before .at-top .ensures) (c .before .before .before .before .value-as-bit .ensures (a .nodes .now) _ _)
 
 lower-aggregate-lower-list-requires : (t : ℕ) → lower-aggregate-lts.Need-lower-list-requires (lower-aggregate-calls t) (lower-aggregate-at t) lower-aggregate.Post
-lower-aggregate-lower-list-requires t c κs = let a = c .before .before .before .before .before .before .before .before .before .before .before .args in let T = tables-of (a .rows .now) (a .nodes .now) (a .lists .now) (a .counts) in let S = c .before .before .before .before .before .before .before .before .before .before .before .pre .1 .0 in let R = S .types in let Q = c .before .before .before .before .before .before .before .before .before .before .before .pre .1 .1 in let q = list-room T R (a .lists .now) (a .depth) (a .a) (a .n) Q in (rank-same (a .depth) (2 + a .n) (1 + a .n) (c .before .before .before .before .before .before .before .before .before .before .before .pre .0) (omega arith), (S, q .0, q .1))
+lower-aggregate-lower-list-requires t c κs = let a = c .before .before .before .before .before .before .before .before .before .before .before .args in let T = tables-of (a .rows .now) (a .nodes .now) (a .lists .now) (a .counts) in let S = c .before .before .before .before .before .before .before .before .before .before .before .pre .1 .0 in let R = S .types in let Q = c .before .before .before .before .before .before .before .before .before .before .before .pre .1 .1 in let q = list-room T R (a .lists .now) (a .depth) (a .a) (a .n) Q in (rank-same (a .depth) (2) (1) (c .before .before .before .before .before .before .before .before .before .before .before .pre .0) (omega arith), (S, q .0, q .1))
 
 lower-aggregate-gathered-requires : (t : ℕ) → lower-aggregate-lts.Need-gathered-requires (lower-aggregate-calls t) (lower-aggregate-at t) lower-aggregate.Post
 lower-aggregate-gathered-requires t c κs = search needs
@@ -294,7 +295,7 @@ lower-expression-sub-lower-aggregate : (t : ℕ) → lower-expression-lts.Need-s
 lower-expression-sub-lower-aggregate t c = omega (arith, c .before .before .before .before .before .before .before .before .before .if1 .left)
 
 lower-expression-lower-aggregate-requires : (t : ℕ) → lower-expression-lts.Need-lower-aggregate-requires (lower-expression-calls t) (lower-expression-at t) lower-expression.Post
-lower-expression-lower-aggregate-requires t c κs = let a = c .before .before .before .before .before .before .before .before .before .before .before .before .before .before .before .before .before .args in let T = tables-of (a .rows .now) (a .nodes .now) (a .lists .now) (a .counts) in let S = c .before .before .before .before .before .before .before .before .before .before .before .before .before .before .before .before .before .pre .1 .0 in let R = S .types in let Q = c .before .before .before .before .before .before .before .before .before .before .before .before .before .before .before .before .before .pre .1 .1 in let f = c .before .before .before .before .before .before .before .before .find-node .ensures (a .rows .now) in let q = found-room f (a .depth) (c .before .before .before .before .before .before .before .before .before .if1 .left) _ (c .before .before .before .before .before .form5 .given .1) Q in (rank-down (a .depth) 0 _ (c .before .before .before .before .before .before .before .before .before .before .before .before .before .before .before .before .before .pre .0) (c .before .before .before .before .before .before .before .before .before .if1 .left) (omega (arith, few-parts T R (a .lists .now) (a .depth - 1) _ _ q)), (S, q))
+lower-expression-lower-aggregate-requires t c κs = let a = c .before .before .before .before .before .before .before .before .before .before .before .before .before .before .before .before .before .args in let T = tables-of (a .rows .now) (a .nodes .now) (a .lists .now) (a .counts) in let S = c .before .before .before .before .before .before .before .before .before .before .before .before .before .before .before .before .before .pre .1 .0 in let R = S .types in let Q = c .before .before .before .before .before .before .before .before .before .before .before .before .before .before .before .before .before .pre .1 .1 in let f = c .before .before .before .before .before .before .before .before .find-node .ensures (a .rows .now) in (rank-down (a .depth) 0 2 (c .before .before .before .before .before .before .before .before .before .before .before .before .before .before .before .before .before .pre .0) (c .before .before .before .before .before .before .before .before .before .if1 .left) (omega arith), (S, found-room f (a .depth) (c .before .before .before .before .before .before .before .before .before .if1 .left) _ (c .before .before .before .before .before .form5 .given .1) Q))
 
 lower-expression-same-length : (t : ℕ) → lower-expression-lts.Need-same-length (lower-expression-calls t) (lower-expression-at t) lower-expression.Post
 lower-expression-same-length t c = c .before .before .before .before .before .before .before .before .lower-leaf .kept .1 .1 .1 .1 .0
@@ -371,68 +372,79 @@ lower-expression-same-length-20 t c = c .before .before .before .before .before 
 lower-expression-returns-6 : (t : ℕ) → lower-expression-lts.Need-returns-6 (lower-expression-calls t) (lower-expression-at t) lower-expression.Post
 lower-expression-returns-6 t c = let a = c .before .before .before .before .before .before .before .before .before .before .before .before .before .before .before .before .before .before .before .before .before .before .before .before .before .before .args in let T = tables-of (a .rows .now) (a .nodes .now) (a .lists .now) (a .counts) in let S = c .before .before .before .before .before .before .before .before .before .before .before .before .before .before .before .before .before .before .before .before .before .before .before .before .before .before .pre .1 .0 in let R = S .types in let Q = c .before .before .before .before .before .before .before .before .before .before .before .before .before .before .before .before .before .before .before .before .before .before .before .before .before .before .pre .1 .1 in let f = c .before .before .before .before .before .before .before .before .before .before .before .before .before .before .before .before .before .find-node .ensures (a .rows .now) in found-meets f (a .depth) (c .before .before .before .before .before .before .before .before .before .before .before .before .before .before .before .before .before .before .if1 .left) _ (c .before .before .before .before .before .before .before .before .before .before .before .before .before .before .form5 .given .1) (c .before .before .before .before .before .before .before .before .lower-aggregate .ensures)
 
-lower-list-returns : (t : ℕ) → lower-list-lts.Need-returns (lower-list-calls t) (lower-list-at t) lower-list.Post
-lower-list-returns t c = let a = c .before .before .before .before .before .before .before .before .args in let T = tables-of (a .rows .now) (a .nodes .now) (a .lists .now) (a .counts) in let S = c .before .before .before .before .before .before .before .before .pre .1 .0 in let R = S .types in let Q = c .before .before .before .before .before .before .before .before .pre .1 .1 in no-parts T (a .lists .now) (a .depth) (a .a) (a .i) (a .n) (c .if1 .taken) (record { code = omega (arith, c .before .before .before .before .before .before .before .before .good .1 .1 .1 .1 .0); store = omega (arith, c .before .before .before .before .before .before .before .before .good .1 .1 .1 .1 .1 .0); at = omega (arith, c .before .before .before .before .before .before .before .before .good .1 .1 .1 .1 .1 .1 .1 .1 .0); stored = omega (arith, c .before .before .before .before .before .before .before .before .good .1 .1 .1 .1 .1 .1 .1 .1 .0) })
+-- the m parts from j on are left
+abbrev lower-list-Inv-loop : lower-list-lts.InvT-loop
+lower-list-Inv-loop rows nodes lists counts code₀ store₀ narrowed₀ stack₀ a i n depth t₀ j₀ m₀ code store narrowed stack t j m =
+    Rest (tables-of rows nodes lists counts) lists depth a i n (bufs code₀ store₀ narrowed₀ stack₀) t₀ j m (bufs code store narrowed stack) t
 
-lower-list-list-at-requires : (t : ℕ) → lower-list-lts.Need-list-at-requires (lower-list-calls t) (lower-list-at t) lower-list.Post
+abbrev lower-list-μ-loop : lower-list-lts.MeasureT-loop
+lower-list-μ-loop rows nodes lists counts code₀ store₀ narrowed₀ stack₀ a i n depth t₀ j₀ m₀ code store narrowed stack t j m = m
+
+lower-list-loop-holds : (t : ℕ) → lower-list-lts.Need-loop-holds (lower-list-calls t) (lower-list-at t) lower-list.Post lower-list-Inv-loop lower-list-μ-loop
+lower-list-loop-holds t c = let s = c .before .before .before .before .before .before .before in rest-all (s .pre .1 .1) (s .pre .1 .2) (record { code = omega (arith, s .good .1 .1 .1 .1 .0); store = omega (arith, s .good .1 .1 .1 .1 .1 .0); at = omega (arith, s .good .1 .1 .1 .1 .1 .1 .1 .1 .0); stored = omega (arith, s .good .1 .1 .1 .1 .1 .1 .1 .1 .0) })
+
+lower-list-list-at-requires : (t : ℕ) → lower-list-lts.Need-list-at-requires (lower-list-calls t) (lower-list-at t) lower-list.Post lower-list-Inv-loop lower-list-μ-loop
 lower-list-list-at-requires t c κs = search needs
 
-lower-list-add-at-top : (t : ℕ) → lower-list-lts.Need-add-at-top (lower-list-calls t) (lower-list-at t) lower-list.Post
-lower-list-add-at-top t c = let a = c .before .before .before .before .before .before .before .before .before .before .before .before .before .args in let T = tables-of (a .rows .now) (a .nodes .now) (a .lists .now) (a .counts) in let S = c .before .before .before .before .before .before .before .before .before .before .before .before .before .pre .1 .0 in let R = S .types in let Q = c .before .before .before .before .before .before .before .before .before .before .before .before .before .pre .1 .1 in omega (arith, head-fits T R (a .lists .now) (a .depth) (a .a) (a .i) (a .n) (c .before .before .before .before .before .if1 .left) Q, c .before .before .before .before .before .before .before .before .before .before .before .before .before .good .1 .1 .1 .1 .1 .1 .1 .0)
+lower-list-add-at-top : (t : ℕ) → lower-list-lts.Need-add-at-top (lower-list-calls t) (lower-list-at t) lower-list.Post lower-list-Inv-loop lower-list-μ-loop
+lower-list-add-at-top t c = let g = c .before .before .before .before .before .before .loop .inv in let h = c .before .before .before .before .before .loop-test .taken in let S = c .before .before .before .before .before .before .before .before .before .before .before .before .before .before .pre .1 .0 in let R = S .types in omega (arith, rest-fits g h R, g .stack, c .before .before .before .before .before .before .before .before .before .before .before .before .before .before .good .1 .1 .1 .1 .1 .1 .1 .0)
 
-lower-list-at-top-requires : (t : ℕ) → lower-list-lts.Need-at-top-requires (lower-list-calls t) (lower-list-at t) lower-list.Post
+lower-list-at-top-requires : (t : ℕ) → lower-list-lts.Need-at-top-requires (lower-list-calls t) (lower-list-at t) lower-list.Post lower-list-Inv-loop lower-list-μ-loop
 lower-list-at-top-requires t c κs = search needs
 
-lower-list-lower-expression-requires : (t : ℕ) → lower-list-lts.Need-lower-expression-requires (lower-list-calls t) (lower-list-at t) lower-list.Post
-lower-list-lower-expression-requires t c κs = let a = c .before .before .before .before .before .before .before .before .before .before .before .before .before .before .args in let T = tables-of (a .rows .now) (a .nodes .now) (a .lists .now) (a .counts) in let S = c .before .before .before .before .before .before .before .before .before .before .before .before .before .before .pre .1 .0 in let R = S .types in let Q = c .before .before .before .before .before .before .before .before .before .before .before .before .before .before .pre .1 .1 in (rank-same (a .depth) (1 + a .n) (0) (c .before .before .before .before .before .before .before .before .before .before .before .before .before .before .pre .0) (omega arith), (S, rw (c .at-top .ensures, c .before .before .before .before .before .list-at .ensures) (first-room T R (a .lists .now) (a .depth) (a .a) (a .i) (a .n) (c .before .before .before .before .before .before .if1 .left) Q)))
+lower-list-lower-expression-requires : (t : ℕ) → lower-list-lts.Need-lower-expression-requires (lower-list-calls t) (lower-list-at t) lower-list.Post lower-list-Inv-loop lower-list-μ-loop
+lower-list-lower-expression-requires t c κs = let g = c .before .before .before .before .before .before .before .loop .inv in let h = c .before .before .before .before .before .before .loop-test .taken in let S = c .before .before .before .before .before .before .before .before .before .before .before .before .before .before .before .pre .1 .0 in let R = S .types in let s = c .before .before .before .before .before .before .before .before .before .before .before .before .before .before .before in (rank-same (s .args .depth) (1) (0) (s .pre .0) (omega arith), (S, rw (c .at-top .ensures, c .before .before .before .before .before .list-at .ensures) (rest-first g h R)))
 
-lower-list-enum-known-x : (t : ℕ) → lower-list-lts.Need-enum-known-x (lower-list-calls t) (lower-list-at t) lower-list.Post
+lower-list-enum-known-x : (t : ℕ) → lower-list-lts.Need-enum-known-x (lower-list-calls t) (lower-list-at t) lower-list.Post lower-list-Inv-loop lower-list-μ-loop
 lower-list-enum-known-x t c = search needs
 
-lower-list-enum-known-v : (t : ℕ) → lower-list-lts.Need-enum-known-v (lower-list-calls t) (lower-list-at t) lower-list.Post
+lower-list-same-length : (t : ℕ) → lower-list-lts.Need-same-length (lower-list-calls t) (lower-list-at t) lower-list.Post lower-list-Inv-loop lower-list-μ-loop
+lower-list-same-length t c = c .before .before .before .before .before .before .before .before .before .before .before .lower-expression .kept .1 .1 .1 .1 .0 ∙ c .before .before .before .before .before .before .before .before .before .before .before .before .before .before .before .before .before .before .before .loop .inv .code
+
+lower-list-same-length-2 : (t : ℕ) → lower-list-lts.Need-same-length-2 (lower-list-calls t) (lower-list-at t) lower-list.Post lower-list-Inv-loop lower-list-μ-loop
+lower-list-same-length-2 t c = c .before .before .before .before .before .before .before .before .before .before .before .lower-expression .kept .1 .1 .1 .1 .1 .0 ∙ c .before .before .before .before .before .before .before .before .before .before .before .before .before .before .before .before .before .before .before .loop .inv .store
+
+lower-list-same-length-3 : (t : ℕ) → lower-list-lts.Need-same-length-3 (lower-list-calls t) (lower-list-at t) lower-list.Post lower-list-Inv-loop lower-list-μ-loop
+lower-list-same-length-3 t c = c .before .before .before .before .before .before .before .before .before .before .before .lower-expression .kept .1 .1 .1 .1 .1 .1 .0 ∙ c .before .before .before .before .before .before .before .before .before .before .before .before .before .before .before .before .before .before .before .loop .inv .narrowed
+
+lower-list-same-length-4 : (t : ℕ) → lower-list-lts.Need-same-length-4 (lower-list-calls t) (lower-list-at t) lower-list.Post lower-list-Inv-loop lower-list-μ-loop
+lower-list-same-length-4 t c = c .before .before .before .before .before .before .before .before .before .before .before .lower-expression .kept .1 .1 .1 .1 .1 .1 .1 .0 ∙ c .before .before .before .before .before .before .before .before .before .before .before .before .before .before .before .before .before .before .before .loop .inv .stack
+
+lower-list-returns : (t : ℕ) → lower-list-lts.Need-returns (lower-list-calls t) (lower-list-at t) lower-list.Post lower-list-Inv-loop lower-list-μ-loop
+lower-list-returns t c = let g = c .before .before .before .before .before .before .before .before .before .before .before .before .before .before .before .before .before .before .before .loop .inv in let h = c .before .before .before .before .before .before .before .before .before .before .before .before .before .before .before .before .before .before .loop-test .taken in let v = rw (c .before .before .before .before .before .before .before .before .before .before .before .before .at-top .ensures, c .before .before .before .before .before .before .before .before .before .before .before .before .before .before .before .before .before .list-at .ensures) at (c .before .before .before .before .before .before .before .before .before .before .before .lower-expression .ensures) in rest-refused g h v (c .before .x .given .1)
+
+lower-list-enum-known-v : (t : ℕ) → lower-list-lts.Need-enum-known-v (lower-list-calls t) (lower-list-at t) lower-list.Post lower-list-Inv-loop lower-list-μ-loop
 lower-list-enum-known-v t c = search needs
 
-lower-list-store-head-requires : (t : ℕ) → lower-list-lts.Need-store-head-requires (lower-list-calls t) (lower-list-at t) lower-list.Post
-lower-list-store-head-requires t c κs = let a = c .before .before .before .before .before .before .before .before .before .before .before .before .before .before .before .before .before .before .before .before .before .before .before .before .before .before .before .args in let T = tables-of (a .rows .now) (a .nodes .now) (a .lists .now) (a .counts) in let S = c .before .before .before .before .before .before .before .before .before .before .before .before .before .before .before .before .before .before .before .before .before .before .before .before .before .before .before .pre .1 .0 in let R = S .types in let Q = c .before .before .before .before .before .before .before .before .before .before .before .before .before .before .before .before .before .before .before .before .before .before .before .before .before .before .before .pre .1 .1 in omega (arith, head-fits T R (a .lists .now) (a .depth) (a .a) (a .i) (a .n) (c .before .before .before .before .before .before .before .before .before .before .before .before .before .before .before .before .before .before .before .if1 .left) Q, c .before .before .before .before .before .before .before .before .before .before .before .before .lower-expression .kept .1 .1 .1 .1 .1 .1 .1 .0)
+lower-list-store-head-requires : (t : ℕ) → lower-list-lts.Need-store-head-requires (lower-list-calls t) (lower-list-at t) lower-list.Post lower-list-Inv-loop lower-list-μ-loop
+lower-list-store-head-requires t c κs = let g = c .before .before .before .before .before .before .before .before .before .before .before .before .before .before .before .before .before .before .before .before .loop .inv in let h = c .before .before .before .before .before .before .before .before .before .before .before .before .before .before .before .before .before .before .before .loop-test .taken in let S = c .before .before .before .before .before .before .before .before .before .before .before .before .before .before .before .before .before .before .before .before .before .before .before .before .before .before .before .before .pre .1 .0 in let R = S .types in omega (arith, rest-fits g h R, c .before .before .before .before .before .before .before .before .before .before .before .before .lower-expression .kept .1 .1 .1 .1 .1 .1 .1 .0)
 
-lower-list-add-lower-list : (t : ℕ) → lower-list-lts.Need-add-lower-list (lower-list-calls t) (lower-list-at t) lower-list.Post
-lower-list-add-lower-list t c = let a = c .before .before .before .before .before .before .before .before .before .before .before .before .before .before .before .before .before .before .before .before .before .before .before .before .before .before .before .before .before .before .before .before .before .before .args in let T = tables-of (a .rows .now) (a .nodes .now) (a .lists .now) (a .counts) in let S = c .before .before .before .before .before .before .before .before .before .before .before .before .before .before .before .before .before .before .before .before .before .before .before .before .before .before .before .before .before .before .before .before .before .before .pre .1 .0 in let R = S .types in let Q = c .before .before .before .before .before .before .before .before .before .before .before .before .before .before .before .before .before .before .before .before .before .before .before .before .before .before .before .before .before .before .before .before .before .before .pre .1 .1 in omega (arith, c .before .before .before .before .before .before .before .before .before .before .before .before .before .before .before .before .before .before .before .before .before .before .before .before .before .before .before .before .before .before .before .before .before .before .pre .1 .2, c .before .before .before .before .before .before .before .before .before .before .before .before .before .before .before .before .before .before .before .before .before .before .before .before .before .before .if1 .left)
+lower-list-add-j : (t : ℕ) → lower-list-lts.Need-add-j (lower-list-calls t) (lower-list-at t) lower-list.Post lower-list-Inv-loop lower-list-μ-loop
+lower-list-add-j t c = let g = c .before .before .before .before .before .before .before .before .before .before .before .before .before .before .before .before .before .before .before .before .before .before .before .loop .inv in omega (arith, g .few)
 
-lower-list-sub-lower-list : (t : ℕ) → lower-list-lts.Need-sub-lower-list (lower-list-calls t) (lower-list-at t) lower-list.Post
-lower-list-sub-lower-list t c = omega (arith, c .before .before .before .before .before .before .before .before .before .before .before .before .before .before .before .before .before .before .before .before .before .before .before .before .before .before .if1 .left)
+lower-list-sub-m : (t : ℕ) → lower-list-lts.Need-sub-m (lower-list-calls t) (lower-list-at t) lower-list.Post lower-list-Inv-loop lower-list-μ-loop
+lower-list-sub-m t c = omega (arith, c .before .before .before .before .before .before .before .before .before .before .before .before .before .before .before .before .before .before .before .before .before .before .loop-test .taken)
 
-lower-list-lower-list-requires : (t : ℕ) → lower-list-lts.Need-lower-list-requires (lower-list-calls t) (lower-list-at t) lower-list.Post
-lower-list-lower-list-requires t c κs = let a = c .before .before .before .before .before .before .before .before .before .before .before .before .before .before .before .before .before .before .before .before .before .before .before .before .before .before .before .before .before .before .before .before .before .before .args in let T = tables-of (a .rows .now) (a .nodes .now) (a .lists .now) (a .counts) in let S = c .before .before .before .before .before .before .before .before .before .before .before .before .before .before .before .before .before .before .before .before .before .before .before .before .before .before .before .before .before .before .before .before .before .before .pre .1 .0 in let R = S .types in let Q = c .before .before .before .before .before .before .before .before .before .before .before .before .before .before .before .before .before .before .before .before .before .before .before .before .before .before .before .before .before .before .before .before .before .before .pre .1 .1 in let m = rw (c .before .before .before .before .before .before .before .before .before .before .before .before .before .before .before .before .before .before .before .before .at-top .ensures, c .before .before .before .before .before .before .before .before .before .before .before .before .before .before .before .before .before .before .before .before .before .before .before .before .before .list-at .ensures) at (c .before .before .before .before .before .before .before .before .before .before .before .before .before .before .before .before .before .before .before .lower-expression .ensures) in let x = value-done m (c .before .before .before .before .before .before .before .before .before .v .given .1) in (rank-same (a .depth) (1 + a .n) (1 + (a .n - 1)) (c .before .before .before .before .before .before .before .before .before .before .before .before .before .before .before .before .before .before .before .before .before .before .before .before .before .before .before .before .before .before .before .before .before .before .pre .0) (omega (arith, c .before .before .before .before .before .before .before .before .before .before .before .before .before .before .before .before .before .before .before .before .before .before .before .before .before .before .if1 .left)), (S, rest-room T R (a .lists .now) (a .depth) (a .a) (a .i) (a .n) (c .before .before .before .before .before .before .before .before .before .before .before .before .before .before .before .before .before .before .before .before .before .before .before .before .before .before .if1 .left) Q x (c .before .before .before .before .before .before .store-head .kept .0), omega (arith, c .before .before .before .before .before .before .before .before .before .before .before .before .before .before .before .before .before .before .before .before .before .before .before .before .before .before .before .before .before .before .before .before .before .before .pre .1 .2, c .before .before .before .before .before .before .before .before .before .before .before .before .before .before .before .before .before .before .before .before .before .before .before .before .before .before .if1 .left)))
+lower-list-loop-less : (t : ℕ) → lower-list-lts.Need-loop-less (lower-list-calls t) (lower-list-at t) lower-list.Post lower-list-Inv-loop lower-list-μ-loop
+lower-list-loop-less t c = omega (arith, c .before .before .before .before .before .before .before .before .before .before .before .before .before .before .before .before .before .before .before .before .before .before .loop-test .taken)
 
-lower-list-same-length : (t : ℕ) → lower-list-lts.Need-same-length (lower-list-calls t) (lower-list-at t) lower-list.Post
-lower-list-same-length t c = c .before .before .before .before .before .before .before .before .before .before .before .lower-expression .kept .1 .1 .1 .1 .0
+lower-list-loop-again : (t : ℕ) → lower-list-lts.Need-loop-again (lower-list-calls t) (lower-list-at t) lower-list.Post lower-list-Inv-loop lower-list-μ-loop
+lower-list-loop-again t c = let g = c .before .before .before .before .before .before .before .before .before .before .before .before .before .before .before .before .before .before .before .before .before .before .before .loop .inv in let h = c .before .before .before .before .before .before .before .before .before .before .before .before .before .before .before .before .before .before .before .before .before .before .loop-test .taken in let S = c .before .before .before .before .before .before .before .before .before .before .before .before .before .before .before .before .before .before .before .before .before .before .before .before .before .before .before .before .before .before .before .pre .1 .0 in let R = S .types in let v = rw (c .before .before .before .before .before .before .before .before .before .before .before .before .before .before .before .before .at-top .ensures, c .before .before .before .before .before .before .before .before .before .before .before .before .before .before .before .before .before .before .before .before .before .list-at .ensures) at (c .before .before .before .before .before .before .before .before .before .before .before .before .before .before .before .lower-expression .ensures) in let k = c .before .before .before .before .before .before .before .before .before .before .before .before .before .before .before .lower-expression .kept in rest-more g h R (value-done v (c .before .before .before .before .before .v .given .1)) (c .before .before .store-head .ensures) (k .1 .1 .1 .1 .0) (k .1 .1 .1 .1 .1 .0) (k .1 .1 .1 .1 .1 .1 .0)
 
-lower-list-same-length-2 : (t : ℕ) → lower-list-lts.Need-same-length-2 (lower-list-calls t) (lower-list-at t) lower-list.Post
-lower-list-same-length-2 t c = c .before .before .before .before .before .before .before .before .before .before .before .lower-expression .kept .1 .1 .1 .1 .1 .0
+lower-list-same-length-5 : (t : ℕ) → lower-list-lts.Need-same-length-5 (lower-list-calls t) (lower-list-at t) lower-list.Post lower-list-Inv-loop lower-list-μ-loop
+lower-list-same-length-5 t c = c .before .loop .inv .code
 
-lower-list-same-length-3 : (t : ℕ) → lower-list-lts.Need-same-length-3 (lower-list-calls t) (lower-list-at t) lower-list.Post
-lower-list-same-length-3 t c = c .before .before .before .before .before .before .before .before .before .before .before .lower-expression .kept .1 .1 .1 .1 .1 .1 .0
+lower-list-same-length-6 : (t : ℕ) → lower-list-lts.Need-same-length-6 (lower-list-calls t) (lower-list-at t) lower-list.Post lower-list-Inv-loop lower-list-μ-loop
+lower-list-same-length-6 t c = c .before .loop .inv .store
 
-lower-list-same-length-4 : (t : ℕ) → lower-list-lts.Need-same-length-4 (lower-list-calls t) (lower-list-at t) lower-list.Post
-lower-list-same-length-4 t c = c .before .before .before .before .before .before .before .before .before .before .before .lower-expression .kept .1 .1 .1 .1 .1 .1 .1 .0
+lower-list-same-length-7 : (t : ℕ) → lower-list-lts.Need-same-length-7 (lower-list-calls t) (lower-list-at t) lower-list.Post lower-list-Inv-loop lower-list-μ-loop
+lower-list-same-length-7 t c = c .before .loop .inv .narrowed
 
-lower-list-returns-2 : (t : ℕ) → lower-list-lts.Need-returns-2 (lower-list-calls t) (lower-list-at t) lower-list.Post
-lower-list-returns-2 t c = let a = c .before .before .before .before .before .before .before .before .before .before .before .before .before .before .before .before .before .before .before .before .before .before .before .before .before .before .args in let T = tables-of (a .rows .now) (a .nodes .now) (a .lists .now) (a .counts) in let S = c .before .before .before .before .before .before .before .before .before .before .before .before .before .before .before .before .before .before .before .before .before .before .before .before .before .before .pre .1 .0 in let R = S .types in let Q = c .before .before .before .before .before .before .before .before .before .before .before .before .before .before .before .before .before .before .before .before .before .before .before .before .before .before .pre .1 .1 in let m = rw (c .before .before .before .before .before .before .before .before .before .before .before .before .at-top .ensures, c .before .before .before .before .before .before .before .before .before .before .before .before .before .before .before .before .before .list-at .ensures) at (c .before .before .before .before .before .before .before .before .before .before .before .lower-expression .ensures) in part-refused T (a .lists .now) (a .depth) (a .a) (a .i) (a .n) (c .before .before .before .before .before .before .before .before .before .before .before .before .before .before .before .before .before .before .if1 .left) m (c .before .x .given .1)
+lower-list-same-length-8 : (t : ℕ) → lower-list-lts.Need-same-length-8 (lower-list-calls t) (lower-list-at t) lower-list.Post lower-list-Inv-loop lower-list-μ-loop
+lower-list-same-length-8 t c = c .before .loop .inv .stack
 
-lower-list-same-length-5 : (t : ℕ) → lower-list-lts.Need-same-length-5 (lower-list-calls t) (lower-list-at t) lower-list.Post
-lower-list-same-length-5 t c = c .before .before .before .before .before .before .before .before .lower-list .kept .1 .1 .1 .1 .0 ∙ c .before .before .before .before .before .before .before .before .before .before .before .before .before .before .before .before .before .before .before .before .before .before .before .before .before .before .before .before .lower-expression .kept .1 .1 .1 .1 .0
-
-lower-list-same-length-6 : (t : ℕ) → lower-list-lts.Need-same-length-6 (lower-list-calls t) (lower-list-at t) lower-list.Post
-lower-list-same-length-6 t c = c .before .before .before .before .before .before .before .before .lower-list .kept .1 .1 .1 .1 .1 .0 ∙ c .before .before .before .before .before .before .before .before .before .before .before .before .before .before .before .before .before .before .before .before .before .before .before .before .before .before .before .before .lower-expression .kept .1 .1 .1 .1 .1 .0
-
-lower-list-same-length-7 : (t : ℕ) → lower-list-lts.Need-same-length-7 (lower-list-calls t) (lower-list-at t) lower-list.Post
-lower-list-same-length-7 t c = c .before .before .before .before .before .before .before .before .lower-list .kept .1 .1 .1 .1 .1 .1 .0 ∙ c .before .before .before .before .before .before .before .before .before .before .before .before .before .before .before .before .before .before .before .before .before .before .before .before .before .before .before .before .lower-expression .kept .1 .1 .1 .1 .1 .1 .0
-
-lower-list-same-length-8 : (t : ℕ) → lower-list-lts.Need-same-length-8 (lower-list-calls t) (lower-list-at t) lower-list.Post
-lower-list-same-length-8 t c = c .before .before .before .before .before .before .before .before .lower-list .kept .1 .1 .1 .1 .1 .1 .1 .0 ∙ c .before .before .before .before .before .before .before .before .before .before .before .before .before .before .before .store-head .kept .0 ∙ c .before .before .before .before .before .before .before .before .before .before .before .before .before .before .before .before .before .before .before .before .before .before .before .before .before .before .before .before .lower-expression .kept .1 .1 .1 .1 .1 .1 .1 .0
-
-lower-list-returns-3 : (t : ℕ) → lower-list-lts.Need-returns-3 (lower-list-calls t) (lower-list-at t) lower-list.Post
-lower-list-returns-3 t c = let a = c .before .before .before .before .before .before .before .before .before .before .before .before .before .before .before .before .before .before .before .before .before .before .before .before .before .before .before .before .before .before .before .before .before .before .before .before .before .before .before .before .before .before .before .args in let T = tables-of (a .rows .now) (a .nodes .now) (a .lists .now) (a .counts) in let S = c .before .before .before .before .before .before .before .before .before .before .before .before .before .before .before .before .before .before .before .before .before .before .before .before .before .before .before .before .before .before .before .before .before .before .before .before .before .before .before .before .before .before .before .pre .1 .0 in let R = S .types in let Q = c .before .before .before .before .before .before .before .before .before .before .before .before .before .before .before .before .before .before .before .before .before .before .before .before .before .before .before .before .before .before .before .before .before .before .before .before .before .before .before .before .before .before .before .pre .1 .1 in let m = rw (c .before .before .before .before .before .before .before .before .before .before .before .before .before .before .before .before .before .before .before .before .before .before .before .before .before .before .before .before .before .at-top .ensures, c .before .before .before .before .before .before .before .before .before .before .before .before .before .before .before .before .before .before .before .before .before .before .before .before .before .before .before .before .before .before .before .before .before .before .list-at .ensures) at (c .before .before .before .before .before .before .before .before .before .before .before .before .before .before .before .before .before .before .before .before .before .before .before .before .before .before .before .before .lower-expression .ensures) in let x = value-done m (c .before .before .before .before .before .before .before .before .before .before .before .before .before .before .before .before .before .before .v .given .1) in let q = rw (c .before .before .before .before .before .before .before .before .before .before .before .before .before .before .before .store-head .ensures) at (c .before .before .before .before .before .before .before .before .lower-list .ensures) in part-meets T (a .lists .now) (a .depth) (a .a) (a .i) (a .n) (c .before .before .before .before .before .before .before .before .before .before .before .before .before .before .before .before .before .before .before .before .before .before .before .before .before .before .before .before .before .before .before .before .before .before .before .if1 .left) x (head-fits T R (a .lists .now) (a .depth) (a .a) (a .i) (a .n) (c .before .before .before .before .before .before .before .before .before .before .before .before .before .before .before .before .before .before .before .before .before .before .before .before .before .before .before .before .before .before .before .before .before .before .before .if1 .left) Q) q
+lower-list-returns-2 : (t : ℕ) → lower-list-lts.Need-returns-2 (lower-list-calls t) (lower-list-at t) lower-list.Post lower-list-Inv-loop lower-list-μ-loop
+lower-list-returns-2 t c = rest-none (c .before .loop .inv) (c .loop-test .left)
 
 lower-one-lower-expression-requires : (t : ℕ) → lower-one-lts.Need-lower-expression-requires (lower-one-calls t) (lower-one-at t) lower-one.Post
 lower-one-lower-expression-requires t c κs = let a = c .before .before .before .before .before .before .before .before .before .before .before .args in let T = tables-of (a .rows .now) (a .nodes .now) (a .lists .now) (a .counts) in let S = c .before .before .before .before .before .before .before .before .before .before .before .pre .1 .0 in let R = S .types in let Q = c .before .before .before .before .before .before .before .before .before .before .before .pre .1 .1 in (rank-same (a .depth) (1) (0) (c .before .before .before .before .before .before .before .before .before .before .before .pre .0) (omega arith), (S, one-room T R Q))
@@ -715,27 +727,30 @@ pub +expression-as-bit+lower-aggregate+lower-expression+lower-list+lower-one+low
     (lower-expression-same-length-20 t)
     (lower-expression-returns-6 t))
     (λ t. lower-list-lts.spec (lower-list-calls t) (lower-list-at t) lower-list.Post
-    (lower-list-returns t)
+    lower-list-Inv-loop
+    lower-list-μ-loop
+    (lower-list-loop-holds t)
     (lower-list-list-at-requires t)
     (lower-list-add-at-top t)
     (lower-list-at-top-requires t)
     (lower-list-lower-expression-requires t)
     (lower-list-enum-known-x t)
-    (lower-list-enum-known-v t)
-    (lower-list-store-head-requires t)
-    (lower-list-add-lower-list t)
-    (lower-list-sub-lower-list t)
-    (lower-list-lower-list-requires t)
     (lower-list-same-length t)
     (lower-list-same-length-2 t)
     (lower-list-same-length-3 t)
     (lower-list-same-length-4 t)
-    (lower-list-returns-2 t)
+    (lower-list-returns t)
+    (lower-list-enum-known-v t)
+    (lower-list-store-head-requires t)
+    (lower-list-add-j t)
+    (lower-list-sub-m t)
+    (lower-list-loop-less t)
+    (lower-list-loop-again t)
     (lower-list-same-length-5 t)
     (lower-list-same-length-6 t)
     (lower-list-same-length-7 t)
     (lower-list-same-length-8 t)
-    (lower-list-returns-3 t))
+    (lower-list-returns-2 t))
     (λ t. lower-one-lts.spec (lower-one-calls t) (lower-one-at t) lower-one.Post
     (lower-one-lower-expression-requires t)
     (lower-one-enum-known-n t)

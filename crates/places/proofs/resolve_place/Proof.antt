@@ -1,7 +1,6 @@
 -- `places::resolve_place` meets its contract: by the place's kind, each behind its base. Assumes nothing.
 use borrow.Author.Needs.{needs}
 use mathlib.Core.Path.{sym, _∙_}
-use native.Mathlib.Omega.{arith}
 use Rattle.spec.specs.Places.{resolve-place as place-located}
 use Rattle.tables.proofs.Laws.{place-none, place-here, readable-sized}
 use Rattle.places.proofs.Facts.{locates-bind}

@@ -1,6 +1,5 @@
-use mathlib.Core.Path.{_≡_}
-use Prim.Native.Nat.{_≤_, _-_, _<_, _+_, _*_, _^_}
-use lib.ListN.{length, drop, getD}
+use Prim.Native.Nat.{_≤_, _-_}
+use lib.ListN.{length}
 use borrow.Author.Needs.{needs}
 use Rattle.reading_tests.proofs.run.Statement.{statement}
 use Rattle.reading_tests.proofs.run.Tie as tie

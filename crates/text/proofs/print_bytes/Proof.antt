@@ -1,54 +1,55 @@
--- The invariant: the first i bytes of w are put.
-use mathlib.Core.Path.{_≡_, refl, _∙_}
-use Prim.Native.Nat.{_≤_, _-_}
-use lib.ListN.{length, take}
+-- A block copy where there is room for all of w, else byte by byte.
 use borrow.Author.Needs.{needs}
 use native.Mathlib.Omega.{arith}
-use Rattle.text.specs.Put.{Put, none, bytes-more, bytes-all}
+use Rattle.text.proofs.Copying.{room-for, middle-put}
 use Rattle.text.proofs.print_bytes.Statement.{statement}
 use Rattle.text.proofs.print_bytes.Tie as tie
 
-abbrev Inv-loop : tie.InvT-loop
-Inv-loop buf₀ at w p₀ i₀ buf p i = (i ≤ length w) × Put buf₀ p₀ (take i w) buf p × (length buf ≡ length buf₀)
+sub-if2 : tie.Need-sub-if2
+sub-if2 c = search needs
 
-abbrev μ-loop : tie.MeasureT-loop
-μ-loop buf₀ at w p₀ i₀ buf p i = length w - i
+add-next : tie.Need-add-next
+add-next c = search needs
 
-loop-holds : tie.Need-loop-holds Inv-loop μ-loop
-loop-holds c = (omega arith, none _ _ (omega arith) (omega arith), refl)
+sub-copy-in : tie.Need-sub-copy-in
+sub-copy-in c = search needs
 
-shared-slice-read-put : tie.Need-shared-slice-read-put Inv-loop μ-loop
-shared-slice-read-put c = search needs
+part-copy-in-start : tie.Need-part-copy-in-start
+part-copy-in-start c = search needs
 
-put-requires : tie.Need-put-requires Inv-loop μ-loop
-put-requires c κs = search needs
+part-copy-in-end : tie.Need-part-copy-in-end
+part-copy-in-end c = let a = c .before .before .before .before .args in room-for (a .buf .now) (a .w .now) (a .at) (c .before .if1 .taken) (c .if2 .taken)
 
-add-i : tie.Need-add-i Inv-loop μ-loop
-add-i c = search needs
+copy-in-requires : tie.Need-copy-in-requires
+copy-in-requires c κs = search needs
 
-loop-less : tie.Need-loop-less Inv-loop μ-loop
-loop-less c = search needs
-
-loop-again : tie.Need-loop-again Inv-loop μ-loop
-loop-again c = (omega arith, bytes-more (c .before .before .before .before .before .before .before .before .before .args .w .now) (c .before .before .before .before .before .before .loop .i) (omega arith) (c .before .before .before .before .before .before .loop .inv .1) (c .before .before .put .ensures), c .before .before .put .kept .0 ∙ c .before .before .before .before .before .before .loop .inv .2)
-
-same-length : tie.Need-same-length Inv-loop μ-loop
+same-length : tie.Need-same-length
 same-length c = search needs
 
-returns : tie.Need-returns Inv-loop μ-loop
-returns c = bytes-all (c .before .before .before .before .args .w .now) (c .before .loop .i) (omega arith) (c .before .loop .inv .1)
+returns : tie.Need-returns
+returns c = let a = c .before .before .before .before .before .before .before .before .args in middle-put (a .buf .now) (a .w .now) (a .at) (room-for (a .buf .now) (a .w .now) (a .at) (c .before .before .before .before .before .if1 .taken) (c .before .before .before .before .if2 .taken)) (omega arith) (c .before .before .copy-in .ensures)
+
+print-each-requires : tie.Need-print-each-requires
+print-each-requires c κs = search needs
+
+same-length-2 : tie.Need-same-length-2
+same-length-2 c = search needs
+
+returns-2 : tie.Need-returns-2
+returns-2 c = search needs
 
 pub print-bytes-spec : {M : Type 1} → statement M
 print-bytes-spec =
     tie.close
     (tie.spec
-    Inv-loop
-    μ-loop
-    loop-holds
-    shared-slice-read-put
-    put-requires
-    add-i
-    loop-less
-    loop-again
+    sub-if2
+    add-next
+    sub-copy-in
+    part-copy-in-start
+    part-copy-in-end
+    copy-in-requires
     same-length
-    returns)
+    returns
+    print-each-requires
+    same-length-2
+    returns-2)

@@ -1,9 +1,5 @@
 use borrow.Author.Needs.{needs}
-use native.Mathlib.Omega.{arith}
-use mathlib.Core.Path.{_≡_, refl, sym, _∙_}
-use Prim.Native.Nat.{_≤_, _-_, _<_, _+_}
-use lib.ListN.{length, take, getD}
-use mathlib.Core.List.{List, [], _∷_, _++_}
+use Prim.Native.Nat.{_-_, _+_}
 use Rattle.values.proofs.bit_words.Statement.{statement}
 use Rattle.values.proofs.bit_words.Tie as tie
 use Rattle.values.proofs.bit_words.Reads as reads

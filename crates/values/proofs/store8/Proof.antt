@@ -1,11 +1,10 @@
-use mathlib.Core.Path.{_≡_, refl, sym, ap, _∙_}
+use mathlib.Core.Path.{_≡_, refl, ap, _∙_}
 use mathlib.Core.List.{List}
-use Prim.Native.Nat.{ℕ, _+_, _-_, _≤_, suc}
+use Prim.Native.Nat.{ℕ, _-_, _≤_}
 use native.Mathlib.Omega.{arith}
 use mathlib.Core.Logic.{⊎-elim}
-use lib.ListN.{length, take, set, length-set}
+use lib.ListN.{length, take}
 use lib.Seq.{sets, length-sets, take-all}
-use borrow.Author.Needs.{needs}
 use Rattle.values.specs.Stores.{stored-more, dropped-more}
 use Rattle.values.proofs.store8.Statement.{statement}
 use Rattle.values.proofs.store8.Tie as tie

@@ -1,9 +1,7 @@
 use borrow.Author.Needs.{needs}
-use native.Mathlib.Omega.{arith}
-use mathlib.Core.Path.{_≡_, refl, sym, _∙_}
-use Prim.Native.Nat.{_≤_, _-_, _<_, _+_}
-use lib.ListN.{length, take, getD}
-use mathlib.Core.List.{List, [], _∷_, _++_}
+use mathlib.Core.Path.{sym}
+use Prim.Native.Nat.{_-_, _+_}
+use mathlib.Core.List.{List}
 use lib.ListN.{List·getD-eq-default}
 use Rattle.values.proofs.word.Statement.{statement}
 use Rattle.values.proofs.word.Tie as tie

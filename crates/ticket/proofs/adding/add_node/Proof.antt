@@ -8,6 +8,9 @@ use Rattle.ticket.proofs.adding.add_node.Reads as reads
 use Rattle.ticket.proofs.adding.add_node.Lts as lts
 use Rattle.ticket.proofs.rows.put_row.Reads as put-row-reads
 
+mul-put-row : tie.Need-mul-put-row
+mul-put-row c = search needs
+
 -- src/adding.rt:153:19
 add-put-row : tie.Need-add-put-row
 add-put-row c = search needs
@@ -25,12 +28,12 @@ add-t10 : tie.Need-add-t10
 add-t10 c = search needs
 
 -- src/adding.rt:163:15
-add-t12 : tie.Need-add-t12
-add-t12 c = search needs
+add-t13 : tie.Need-add-t13
+add-t13 c = search needs
 
 -- src/adding.rt:165:16
-add-t11 : tie.Need-add-t11
-add-t11 c = search needs
+add-t12 : tie.Need-add-t12
+add-t12 c = search needs
 
 -- src/adding.rt:149:1
 same-length : tie.Need-same-length
@@ -44,11 +47,12 @@ pub add-node-spec : {M : Type 1} → statement M
 add-node-spec =
     tie.close
     (tie.spec
+    mul-put-row
     add-put-row
     add-put-row-2
     put-row-requires
     add-t10
+    add-t13
     add-t12
-    add-t11
     same-length
     returns)

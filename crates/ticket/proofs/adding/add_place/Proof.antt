@@ -6,6 +6,9 @@ use Rattle.ticket.proofs.adding.add_place.Reads as reads
 use Rattle.ticket.proofs.adding.add_place.Lts as lts
 use Rattle.ticket.proofs.rows.put_row.Reads as put-row-reads
 
+mul-put-row : tie.Need-mul-put-row
+mul-put-row c = search needs
+
 -- src/adding.rt:131:19
 add-put-row : tie.Need-add-put-row
 add-put-row c = search needs
@@ -23,12 +26,12 @@ add-t10 : tie.Need-add-t10
 add-t10 c = search needs
 
 -- src/adding.rt:141:15
-add-t12 : tie.Need-add-t12
-add-t12 c = search needs
+add-t13 : tie.Need-add-t13
+add-t13 c = search needs
 
 -- src/adding.rt:143:16
-add-t11 : tie.Need-add-t11
-add-t11 c = search needs
+add-t12 : tie.Need-add-t12
+add-t12 c = search needs
 
 -- src/adding.rt:127:1
 same-length : tie.Need-same-length
@@ -42,11 +45,12 @@ pub add-place-spec : {M : Type 1} → statement M
 add-place-spec =
     tie.close
     (tie.spec
+    mul-put-row
     add-put-row
     add-put-row-2
     put-row-requires
     add-t10
+    add-t13
     add-t12
-    add-t11
     same-length
     returns)

@@ -1,34 +1,46 @@
 use borrow.Author.Needs.{needs}
-use Rattle.ticket.proofs.AddLaws.{adding}
+use native.Mathlib.Omega.{arith}
+use Rattle.ticket.proofs.AddLaws.{add-type}
 use Rattle.ticket.proofs.adding.add_type.Statement.{statement}
 use Rattle.ticket.proofs.adding.add_type.Tie as tie
-use Rattle.ticket.proofs.adding.add_type.Reads as reads
-use Rattle.ticket.proofs.adding.add_type.Lts as lts
-use Rattle.ticket.proofs.rows.put_row.Reads as put-row-reads
 
--- src/adding.rt:43:5
+type-number-requires : tie.Need-type-number-requires
+type-number-requires c κs = search needs
+
+note-requires : tie.Need-note-requires
+note-requires c κs = search needs
+
+mul-put-row : tie.Need-mul-put-row
+mul-put-row c = search needs
+
 put-row-requires : tie.Need-put-row-requires
 put-row-requires c κs = search needs
 
--- src/adding.rt:47:16
 add-t10 : tie.Need-add-t10
 add-t10 c = search needs
 
--- src/adding.rt:53:15
-add-t11 : tie.Need-add-t11
-add-t11 c = search needs
+add-t13 : tie.Need-add-t13
+add-t13 c = record { fits = omega (arith, c .before .before .before .before .before .before .before .before .before .before .before .before .before .before .pre .2, c .before .before .before .before .before .before .before .before .before .before .before .before .before .before .good .1 .0) }
 
--- src/adding.rt:55:16
-add-t12 : tie.Need-add-t12
-add-t12 c = search needs
+add-t14 : tie.Need-add-t14
+add-t14 c = record { fits = omega (arith, c .before .before .before .before .before .before .before .before .before .before .before .before .before .before .before .pre .4) }
 
--- src/adding.rt:39:1
 same-length : tie.Need-same-length
 same-length c = search needs
 
--- src/adding.rt:39:1
 returns : tie.Need-returns
-returns c = search (adding, needs)
+returns c = add-type _ _ _ _ _ _ _ (c .before .before .before .before .before .before .before .before .before .before .before .type-number .result) _ (c .before .before .before .before .before .before .before .before .before .before .before .before .before .before .before .pre .0) (c .before .before .before .before .before .before .before .before .before .before .before .before .before .before .before .pre .3) (c .before .before .before .before .before .before .before .before .before .before .before .before .before .before .before .pre .1) (c .before .before .before .before .before .before .before .before .before .before .before .type-number .ensures) (c .before .before .before .before .before .before .before .before .before .before .note .ensures) (c .before .before .before .before .before .put-row .ensures)
 
 pub add-type-spec : {M : Type 1} → statement M
-add-type-spec = tie.close (tie.spec put-row-requires add-t10 add-t11 add-t12 same-length returns)
+add-type-spec =
+    tie.close
+    (tie.spec
+    type-number-requires
+    note-requires
+    mul-put-row
+    put-row-requires
+    add-t10
+    add-t13
+    add-t14
+    same-length
+    returns)

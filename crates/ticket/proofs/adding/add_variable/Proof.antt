@@ -6,6 +6,9 @@ use Rattle.ticket.proofs.adding.add_variable.Reads as reads
 use Rattle.ticket.proofs.adding.add_variable.Lts as lts
 use Rattle.ticket.proofs.rows.put_row.Reads as put-row-reads
 
+mul-put-row : tie.Need-mul-put-row
+mul-put-row c = search needs
+
 -- src/adding.rt:87:19
 add-put-row : tie.Need-add-put-row
 add-put-row c = search needs
@@ -19,12 +22,12 @@ add-t10 : tie.Need-add-t10
 add-t10 c = search needs
 
 -- src/adding.rt:97:15
-add-t11 : tie.Need-add-t11
-add-t11 c = search needs
-
--- src/adding.rt:99:16
 add-t12 : tie.Need-add-t12
 add-t12 c = search needs
+
+-- src/adding.rt:99:16
+add-t11 : tie.Need-add-t11
+add-t11 c = search needs
 
 -- src/adding.rt:83:1
 same-length : tie.Need-same-length
@@ -36,4 +39,13 @@ returns c = search (adding, needs)
 
 pub add-variable-spec : {M : Type 1} → statement M
 add-variable-spec =
-    tie.close (tie.spec add-put-row put-row-requires add-t10 add-t11 add-t12 same-length returns)
+    tie.close
+    (tie.spec
+    mul-put-row
+    add-put-row
+    put-row-requires
+    add-t10
+    add-t12
+    add-t11
+    same-length
+    returns)

@@ -1,5 +1,4 @@
 use borrow.Author.Needs.{needs}
-use Rattle.fields.proofs.Tests.{tests}
 use Rattle.ticket.proofs.checks.bits.Statement.{statement}
 use Rattle.ticket.proofs.checks.bits.Tie as tie
 use Rattle.ticket.proofs.checks.bits.Reads as reads

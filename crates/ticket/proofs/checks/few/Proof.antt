@@ -1,5 +1,4 @@
 use borrow.Author.Needs.{needs}
-use Rattle.fields.proofs.Tests.{tests}
 use Rattle.ticket.proofs.checks.few.Statement.{statement}
 use Rattle.ticket.proofs.checks.few.Tie as tie
 use Rattle.ticket.proofs.checks.few.Reads as reads

@@ -1,5 +1,4 @@
 use borrow.Author.Needs.{needs}
-use Rattle.fields.proofs.Tests.{tests}
 use Rattle.ticket.proofs.checks.fields_fit.Statement.{statement}
 use Rattle.ticket.proofs.checks.fields_fit.Tie as tie
 use Rattle.ticket.proofs.checks.fields_fit.Reads as reads

@@ -1,6 +1,4 @@
-use borrow.Author.Needs.{needs}
 use Rattle.ticket.proofs.CheckLaws.{length-two, length-other}
-use Rattle.fields.proofs.Tests.{tests}
 use Rattle.ticket.proofs.checks.length_fit.Statement.{statement}
 use Rattle.ticket.proofs.checks.length_fit.Tie as tie
 use Rattle.ticket.proofs.checks.length_fit.Reads as reads

@@ -1,6 +1,5 @@
 use borrow.Author.Needs.{needs}
 use Rattle.ticket.proofs.CheckLaws.{ordered-low, ordered-high}
-use Rattle.fields.proofs.Tests.{tests}
 use Rattle.ticket.proofs.checks.ordered.Statement.{statement}
 use Rattle.ticket.proofs.checks.ordered.Tie as tie
 use Rattle.ticket.proofs.checks.ordered.Reads as reads

@@ -5,16 +5,12 @@ use Rattle.ticket.proofs.forms.line_form.Statement.{statement}
 use Rattle.ticket.proofs.forms.line_form.Tie as tie
 use Rattle.ticket.proofs.forms.line_form.Reads as reads
 use Rattle.ticket.proofs.forms.line_form.Lts as lts
-use Rattle.fields.proofs.word.Reads as word-reads
+use Rattle.ticket.proofs.forms.kind_word.Reads as kind-word-reads
 use Rattle.ticket.proofs.forms.form_of.Reads as form-of-reads
 
--- src/forms.rt:215:37
-slice-aggregate-word : tie.Need-slice-aggregate-word
-slice-aggregate-word c = search needs
-
 -- src/forms.rt:215:11
-word-requires : tie.Need-word-requires
-word-requires c κs = search needs
+kind-word-requires : tie.Need-kind-word-requires
+kind-word-requires c κs = search needs
 
 -- src/forms.rt:216:23
 enum-known-k : tie.Need-enum-known-k
@@ -22,7 +18,7 @@ enum-known-k c = search needs
 
 -- src/forms.rt:216:35
 form-of-requires : tie.Need-form-of-requires
-form-of-requires c κs = let a = word-ahead _ _ _ (c .before .before .before .before .word .result) _ _ (c .before .before .before .before .word .ensures) (c .before .before .k .given .1) in (search needs, omega arith, omega arith)
+form-of-requires c κs = let a = word-ahead _ _ _ (c .before .before .before .before .kind-word .result) _ _ (c .before .before .before .before .kind-word .ensures) (c .before .before .k .given .1) in (search needs, omega arith, omega arith)
 
 -- src/forms.rt:217:29
 enum-told : tie.Need-enum-told
@@ -44,8 +40,7 @@ pub line-form-spec : {M : Type 1} → statement M
 line-form-spec =
     tie.close
     (tie.spec
-    slice-aggregate-word
-    word-requires
+    kind-word-requires
     enum-known-k
     form-of-requires
     enum-told

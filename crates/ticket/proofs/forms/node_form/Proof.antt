@@ -3,7 +3,7 @@ use Prim.Native.Nat.{_<_}
 use lib.ListN.{length, length-set}
 use native.Mathlib.Omega.{arith}
 use mathlib.Core.Path.{_∙_}
-use Rattle.ticket.proofs.LineForms.{formed, word-ahead, length-kept, length-after}
+use Rattle.ticket.proofs.LineForms.{formed, word-ahead, length-kept}
 use Rattle.fields.proofs.Lines.{value-ahead}
 use Rattle.ticket.proofs.forms.node_form.Statement.{statement}
 use Rattle.ticket.proofs.forms.node_form.Tie as tie

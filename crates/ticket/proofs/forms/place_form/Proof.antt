@@ -5,17 +5,13 @@ use Rattle.ticket.proofs.forms.place_form.Statement.{statement}
 use Rattle.ticket.proofs.forms.place_form.Tie as tie
 use Rattle.ticket.proofs.forms.place_form.Reads as reads
 use Rattle.ticket.proofs.forms.place_form.Lts as lts
-use Rattle.fields.proofs.word.Reads as word-reads
+use Rattle.ticket.proofs.forms.place_word.Reads as place-word-reads
 use Rattle.ticket.proofs.forms.letter.Reads as letter-reads
 use Rattle.ticket.proofs.forms.numbered.Reads as numbered-reads
 
--- src/forms.rt:154:61
-slice-aggregate-word : tie.Need-slice-aggregate-word
-slice-aggregate-word c = search needs
-
 -- src/forms.rt:154:34
-word-requires : tie.Need-word-requires
-word-requires c κs = search needs
+place-word-requires : tie.Need-place-word-requires
+place-word-requires c κs = search needs
 
 -- src/forms.rt:154:23
 enum-known-w : tie.Need-enum-known-w
@@ -39,7 +35,7 @@ letter-requires c κs = search needs
 
 -- src/forms.rt:158:5
 numbered-requires : tie.Need-numbered-requires
-numbered-requires c κs = let a = word-ahead _ _ _ (c .before .before .before .before .before .before .word .result) _ _ (c .before .before .before .before .before .before .word .ensures) (c .before .before .before .before .w .given .1) in (search needs, omega arith, omega arith)
+numbered-requires c κs = let a = word-ahead _ _ _ (c .before .before .before .before .before .before .place-word .result) _ _ (c .before .before .before .before .before .before .place-word .ensures) (c .before .before .before .before .w .given .1) in (search needs, omega arith, omega arith)
 
 -- src/forms.rt:149:1
 same-length : tie.Need-same-length
@@ -53,8 +49,7 @@ pub place-form-spec : {M : Type 1} → statement M
 place-form-spec =
     tie.close
     (tie.spec
-    slice-aggregate-word
-    word-requires
+    place-word-requires
     enum-known-w
     enum-told
     returns

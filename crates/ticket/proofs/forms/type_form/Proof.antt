@@ -5,17 +5,13 @@ use Rattle.ticket.proofs.forms.type_form.Statement.{statement}
 use Rattle.ticket.proofs.forms.type_form.Tie as tie
 use Rattle.ticket.proofs.forms.type_form.Reads as reads
 use Rattle.ticket.proofs.forms.type_form.Lts as lts
-use Rattle.fields.proofs.word.Reads as word-reads
+use Rattle.ticket.proofs.forms.type_word.Reads as type-word-reads
 use Rattle.ticket.proofs.forms.letter.Reads as letter-reads
 use Rattle.ticket.proofs.forms.numbered.Reads as numbered-reads
 
--- src/forms.rt:142:61
-slice-aggregate-word : tie.Need-slice-aggregate-word
-slice-aggregate-word c = search needs
-
 -- src/forms.rt:142:34
-word-requires : tie.Need-word-requires
-word-requires c κs = search needs
+type-word-requires : tie.Need-type-word-requires
+type-word-requires c κs = search needs
 
 -- src/forms.rt:142:23
 enum-known-w : tie.Need-enum-known-w
@@ -39,7 +35,7 @@ letter-requires c κs = search needs
 
 -- src/forms.rt:146:5
 numbered-requires : tie.Need-numbered-requires
-numbered-requires c κs = let a = word-ahead _ _ _ (c .before .before .before .before .before .before .word .result) _ _ (c .before .before .before .before .before .before .word .ensures) (c .before .before .before .before .w .given .1) in (search needs, omega arith, omega arith)
+numbered-requires c κs = let a = word-ahead _ _ _ (c .before .before .before .before .before .before .type-word .result) _ _ (c .before .before .before .before .before .before .type-word .ensures) (c .before .before .before .before .w .given .1) in (search needs, omega arith, omega arith)
 
 -- src/forms.rt:137:1
 same-length : tie.Need-same-length
@@ -53,8 +49,7 @@ pub type-form-spec : {M : Type 1} → statement M
 type-form-spec =
     tie.close
     (tie.spec
-    slice-aggregate-word
-    word-requires
+    type-word-requires
     enum-known-w
     enum-told
     returns

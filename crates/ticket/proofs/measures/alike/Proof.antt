@@ -1,67 +1,28 @@
-use mathlib.Core.Path.{_≡_}
-use Prim.Native.Nat.{_≤_, _-_, _<_, _+_, _*_, _^_}
-use lib.ListN.{length, drop, getD}
 use borrow.Author.Needs.{needs}
-use Rattle.tables.specs.Tables.{tab, run, type-word-by}
-use Rattle.spec.specs.Read.{alike}
-use Rattle.ticket.specs.Rows.{section, typeRow, rowAt}
-use Rattle.ticket.proofs.MeasureLaws.{alike-start, alike-here, alike-next, alike-end}
+use Rattle.ticket.proofs.KeyLaws.{unlike-known}
 use Rattle.ticket.proofs.measures.alike.Statement.{statement}
 use Rattle.ticket.proofs.measures.alike.Tie as tie
-use Rattle.ticket.proofs.measures.alike.Reads as reads
-use Rattle.ticket.proofs.measures.alike.Lts as lts
-use Rattle.ticket.proofs.measures.alike_row.Reads as alike-row-reads
-use Rattle.ticket.proofs.measures.type_number.Reads as type-number-reads
 
-abbrev Inv-loop : tie.InvT-loop
-Inv-loop rows lists counts word start n w most k₀ k = (k ≤ most) × (alike (type-word-by word) (run lists start n) (section (typeRow lists) rows 0 most) ≡ alike (type-word-by word) (run lists start n) (tab (λ i. typeRow lists (rowAt rows (0 + i))) k (most - k)))
-
-abbrev μ-loop : tie.MeasureT-loop
-μ-loop rows lists counts word start n w most k₀ k = most - k
-
--- src/measures.rt:62:9
-type-number-requires : tie.Need-type-number-requires Inv-loop μ-loop
+-- src/measures.rt:88:9
+type-number-requires : tie.Need-type-number-requires
 type-number-requires c κs = search needs
 
--- src/measures.rt:65:5
-loop-holds : tie.Need-loop-holds Inv-loop μ-loop
-loop-holds c = (search needs, alike-start _ _ _ (c .type-number .result) _ _ (c .type-number .ensures))
+-- src/measures.rt:89:9
+known-requires : tie.Need-known-requires
+known-requires c κs = search needs
 
--- src/measures.rt:66:12
-alike-row-requires : tie.Need-alike-row-requires Inv-loop μ-loop
-alike-row-requires c κs = search needs
+-- src/measures.rt:90:9
+returns : tie.Need-returns
+returns c = unlike-known _ _ _ _ (c .before .before .type-number .result) _ (c .before .known .result) (c .before .before .before .before .before .pre .3) (c .before .before .type-number .ensures) (c .before .known .ensures) (c .if1 .taken)
 
--- src/measures.rt:67:13
-returns : tie.Need-returns Inv-loop μ-loop
-returns c = alike-here _ _ _ (c .before .before .before .before .type-number .result) _ _ (c .before .before .before .before .type-number .ensures) _ _ (c .before .before .before .loop .inv .1) _ (c .before .before .loop-test .taken) (c .before .alike-row .ensures) (c .if1 .taken)
+-- src/measures.rt:92:5
+alike-any-requires : tie.Need-alike-any-requires
+alike-any-requires c κs = search needs
 
--- src/measures.rt:69:9
-add-k : tie.Need-add-k Inv-loop μ-loop
-add-k c = search needs
-
--- src/measures.rt:65:5
-loop-less : tie.Need-loop-less Inv-loop μ-loop
-loop-less c = search needs
-
--- src/measures.rt:65:5
-loop-again : tie.Need-loop-again Inv-loop μ-loop
-loop-again c = (search needs, alike-next _ _ _ (c .before .before .before .before .type-number .result) _ _ (c .before .before .before .before .type-number .ensures) _ _ (c .before .before .before .loop .inv .1) _ (c .before .before .loop-test .taken) (c .before .alike-row .ensures) (c .if1 .left))
-
--- src/measures.rt:58:1
-returns-2 : tie.Need-returns-2 Inv-loop μ-loop
-returns-2 c = alike-end _ _ _ (c .before .before .type-number .result) _ _ (c .before .before .type-number .ensures) _ _ (c .before .loop .inv .1) (c .loop-test .left)
+-- src/measures.rt:84:1
+returns-2 : tie.Need-returns-2
+returns-2 c = search needs
 
 pub alike-spec : {M : Type 1} → statement M
 alike-spec =
-    tie.close
-    (tie.spec
-    Inv-loop
-    μ-loop
-    type-number-requires
-    loop-holds
-    alike-row-requires
-    returns
-    add-k
-    loop-less
-    loop-again
-    returns-2)
+    tie.close (tie.spec type-number-requires known-requires returns alike-any-requires returns-2)

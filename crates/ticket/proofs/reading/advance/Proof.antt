@@ -13,7 +13,7 @@ find-requires c κs = search needs
 
 -- src/reading.rt:89:9
 returns : tie.Need-returns
-returns c = advance-tail _ _ _ _ _ _ (c .before .before .before .before .before .pre .5) (c .before .find .ensures) (c .if1 .taken)
+returns c = advance-tail _ _ _ _ _ _ (c .before .before .before .before .before .pre .6) (c .before .find .ensures) (c .if1 .taken)
 
 -- src/reading.rt:91:16
 sub-step : tie.Need-sub-step
@@ -53,7 +53,7 @@ same-length-2 c = search needs
 
 -- src/reading.rt:83:1
 returns-2 : tie.Need-returns-2
-returns-2 c = advance-go _ _ _ _ _ _ (c .before .before .before .before .before .before .before .before .before .before .before .before .before .before .before .before .pre .5) (c .before .before .before .before .before .before .before .before .before .before .before .before .find .ensures) (c .before .before .before .before .before .before .before .before .before .before .before .if1 .left) _ _ (c .before .before .before .before .before .before .before .step .result) (c .before .before .before .before .before .before .before .step .ensures) _ (c .before .next .given .1) (c .before .before .before .before .before .before .before .before .before .before .before .before .before .before .before .before .pre .3)
+returns-2 c = advance-go _ _ _ _ _ _ (c .before .before .before .before .before .before .before .before .before .before .before .before .before .before .before .before .pre .6) (c .before .before .before .before .before .before .before .before .before .before .before .before .find .ensures) (c .before .before .before .before .before .before .before .before .before .before .before .if1 .left) _ _ (c .before .before .before .before .before .before .before .step .result) (c .before .before .before .before .before .before .before .step .ensures) _ (c .before .next .given .1) (c .before .before .before .before .before .before .before .before .before .before .before .before .before .before .before .before .pre .4)
 
 -- src/reading.rt:83:1
 same-length-3 : tie.Need-same-length-3
@@ -65,7 +65,7 @@ same-length-4 c = search needs
 
 -- src/reading.rt:83:1
 returns-3 : tie.Need-returns-3
-returns-3 c = advance-stop _ _ _ _ _ _ (c .before .before .before .before .before .before .before .before .before .before .before .before .before .before .before .before .pre .5) (c .before .before .before .before .before .before .before .before .before .before .before .before .find .ensures) (c .before .before .before .before .before .before .before .before .before .before .before .if1 .left) _ _ (c .before .before .before .before .before .before .before .step .result) (c .before .before .before .before .before .before .before .step .ensures) _ (c .before .n .given .1)
+returns-3 c = advance-stop _ _ _ _ _ _ (c .before .before .before .before .before .before .before .before .before .before .before .before .before .before .before .before .pre .6) (c .before .before .before .before .before .before .before .before .before .before .before .before .find .ensures) (c .before .before .before .before .before .before .before .before .before .before .before .if1 .left) _ _ (c .before .before .before .before .before .before .before .step .result) (c .before .before .before .before .before .before .before .step .ensures) _ (c .before .n .given .1)
 
 pub advance-spec : {M : Type 1} → statement M
 advance-spec =

@@ -1,6 +1,5 @@
 use mathlib.Core.Path.{_≡_}
-use Prim.Native.Nat.{_≤_, _-_, _<_, _+_, _*_, _^_}
-use lib.ListN.{length, drop, getD}
+use Prim.Native.Nat.{_≤_, _-_}
 use borrow.Author.Needs.{needs}
 use Rattle.ticket.specs.Answers.{leastOf, least-rows}
 use Rattle.ticket.proofs.ReadLaws.{rows-start, rows-next, rows-end}

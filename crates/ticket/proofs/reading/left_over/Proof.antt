@@ -1,5 +1,5 @@
 use borrow.Author.Needs.{needs}
-use mathlib.Core.Path.{refl, sym, _∙_, ap}
+use mathlib.Core.Path.{_∙_, ap}
 use Rattle.ticket.specs.Answers.{least-rows}
 use Rattle.ticket.proofs.reading.left_over.Statement.{statement}
 use Rattle.ticket.proofs.reading.left_over.Tie as tie
@@ -22,7 +22,7 @@ least-left-requires-2 c κs = search needs
 
 -- src/reading.rt:57:1
 returns : tie.Need-returns
-returns c = c .least-left2 .ensures ∙ ap (least-rows (c .before .before .before .before .args .rows .now) 640 0 (c .before .before .before .before .args .counts .places)) (c .before .least-left .ensures ∙ rw (c .before .before .but-root .ensures .0))
+returns c = c .least-left2 .ensures ∙ ap (least-rows (c .before .before .before .before .args .rows .now) 4 0 (c .before .before .before .before .args .counts .places)) (c .before .least-left .ensures ∙ rw (c .before .before .but-root .ensures .0))
 
 pub left-over-spec : {M : Type 1} → statement M
 left-over-spec =

@@ -10,12 +10,16 @@ returns : tie.Need-returns
 returns c = search (marking, needs)
 
 -- src/rows.rt:63:16
+mul-at : tie.Need-mul-at
+mul-at c = search needs
+
+-- src/rows.rt:63:16
 add-at : tie.Need-add-at
 add-at c = search needs
 
 -- src/rows.rt:63:15
-mul-at : tie.Need-mul-at
-mul-at c = search needs
+mul-at-2 : tie.Need-mul-at-2
+mul-at-2 c = search needs
 
 -- src/rows.rt:63:15
 add-at-2 : tie.Need-add-at-2
@@ -54,8 +58,9 @@ mark-spec =
     tie.close
     (tie.spec
     returns
-    add-at
     mul-at
+    add-at
+    mul-at-2
     add-at-2
     mul-if2
     slice-read-if2

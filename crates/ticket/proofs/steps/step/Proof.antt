@@ -1,8 +1,8 @@
 use borrow.Author.Needs.{needs}
 use native.Mathlib.Omega.{arith}
-use mathlib.Core.Path.{refl, sym, _∙_, ap}
+use mathlib.Core.Path.{sym, _∙_, ap}
 use Rattle.ticket.specs.Steps.{verdictOf}
-use Rattle.ticket.proofs.StepLaws.{form-half, few-passed, step-unformed, step-refused, step-passed}
+use Rattle.ticket.proofs.StepLaws.{form-half, few-passed, step-unformed, step-refused, step-passed, keyed-kept}
 use Rattle.ticket.proofs.steps.step.Statement.{statement}
 use Rattle.ticket.proofs.steps.step.Tie as tie
 use Rattle.ticket.proofs.steps.step.Reads as reads
@@ -41,7 +41,7 @@ enum-told-2 c = search needs
 
 -- src/steps.rt:218:28
 late-requires : tie.Need-late-requires
-late-requires c κs = let h = form-half _ _ _ _ _ (c .before .before .before .before .before .before .before .before .before .before .before .line-form .result) _ (c .before .before .before .before .before .before .before .before .before .before .before .line-form .ensures) (c .before .before .before .before .before .before .before .form .given .1) in (search needs, search needs, omega (arith, c .before .before .before .before .before .before .before .before .before .before .before .line-form .kept .1 .0), few-passed (c .before .before .before .before .before .before .before .form .given .0 .0) (c .before .before .before .before .before .before .before .before .before .before .before .line-form .last .1 .0) (c .before .before .before .before .before .before .before .before .before .before .before .before .before .before .before .before .args .counts) (ap verdictOf (sym (c .before .before .enum-told2 .given .1)) ∙ c .before .before .before .before .early .ensures), search needs)
+late-requires c κs = let h = form-half _ _ _ _ _ (c .before .before .before .before .before .before .before .before .before .before .before .line-form .result) _ (c .before .before .before .before .before .before .before .before .before .before .before .line-form .ensures) (c .before .before .before .before .before .before .before .form .given .1) in (search needs, search needs, keyed-kept _ _ _ _ (c .before .before .before .before .before .before .before .before .before .before .before .before .before .before .before .before .pre .0) (c .before .before .before .before .before .before .before .before .before .before .before .line-form .ensures .kept) (c .before .before .before .before .before .before .before .before .before .before .before .before .before .before .before .before .pre .2), omega (arith, c .before .before .before .before .before .before .before .before .before .before .before .line-form .kept .1 .0), few-passed (c .before .before .before .before .before .before .before .form .given .0 .0) (c .before .before .before .before .before .before .before .before .before .before .before .line-form .last .1 .0) (c .before .before .before .before .before .before .before .before .before .before .before .before .before .before .before .before .args .counts) (ap verdictOf (sym (c .before .before .enum-told2 .given .1)) ∙ c .before .before .before .before .early .ensures), search needs)
 
 -- src/steps.rt:219:26
 enum-known-n : tie.Need-enum-known-n

@@ -1,0 +1,42 @@
+use mathlib.Core.Path.{_∙_}
+use Rattle.spec.specs.Text.{bytes}
+use Rattle.ticket.specs.Classes.{classAt, class-in, lettered, typeRule}
+use Rattle.ticket.proofs.FormLaws.{other-letter, type-letter-0}
+use Rattle.ticket.proofs.forms.type_letter_0.Statement.{statement}
+use Rattle.ticket.proofs.forms.type_letter_0.Tie as tie
+use Rattle.ticket.proofs.forms.type_letter_0.Reads as reads
+use Rattle.ticket.proofs.forms.type_letter_0.Lts as lts
+
+-- src/forms.rt:52:1
+returns : tie.Need-returns
+unfolding classAt class-in lettered typeRule
+returns c = rw (c .match .keys1)
+
+-- src/forms.rt:52:1
+returns-2 : tie.Need-returns-2
+unfolding classAt class-in lettered typeRule
+returns-2 c = rw (c .match .keys2)
+
+-- src/forms.rt:52:1
+returns-3 : tie.Need-returns-3
+unfolding classAt class-in lettered typeRule
+returns-3 c = rw (c .match .keys3)
+
+-- src/forms.rt:52:1
+returns-4 : tie.Need-returns-4
+unfolding classAt class-in lettered typeRule
+returns-4 c = rw (c .match .keys4)
+
+-- src/forms.rt:52:1
+returns-5 : tie.Need-returns-5
+unfolding classAt class-in lettered typeRule
+returns-5 c = rw (c .match .keys5)
+
+-- src/forms.rt:52:1
+returns-6 : tie.Need-returns-6
+returns-6 c = other-letter _ (bytes "llwfltttl") (c .match .rest) ∙ type-letter-0 _
+
+pub type-letter-0-spec : {M : Type 1} → statement M
+type-letter-0-spec =
+    tie.close
+    (tie.spec returns returns-2 returns-3 returns-4 returns-5 returns-6)

@@ -1,0 +1,27 @@
+use mathlib.Core.Path.{_∙_}
+use Rattle.spec.specs.Text.{bytes}
+use Rattle.ticket.specs.Classes.{classAt, class-in, lettered, typeRule}
+use Rattle.ticket.proofs.FormLaws.{other-letter, type-letter-1}
+use Rattle.ticket.proofs.forms.type_letter_1.Statement.{statement}
+use Rattle.ticket.proofs.forms.type_letter_1.Tie as tie
+use Rattle.ticket.proofs.forms.type_letter_1.Reads as reads
+use Rattle.ticket.proofs.forms.type_letter_1.Lts as lts
+
+-- src/forms.rt:65:1
+returns : tie.Need-returns
+unfolding classAt class-in lettered typeRule
+returns c = rw (c .match .keys1)
+
+-- src/forms.rt:65:1
+returns-2 : tie.Need-returns-2
+unfolding classAt class-in lettered typeRule
+returns-2 c = rw (c .match .keys2)
+
+-- src/forms.rt:65:1
+returns-3 : tie.Need-returns-3
+returns-3 c = other-letter _ (bytes "llllllttl") (c .match .rest) ∙ type-letter-1 _
+
+pub type-letter-1-spec : {M : Type 1} → statement M
+type-letter-1-spec =
+    tie.close
+    (tie.spec returns returns-2 returns-3)
