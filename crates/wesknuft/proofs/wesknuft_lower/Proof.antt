@@ -1,4 +1,5 @@
 -- `wesknuft::wesknuft_lower` meets its contract: the entry's answer, case by case. Assumes nothing.
+use mathlib.Core.Path.{refl}
 use native.Mathlib.Omega.{arith}
 use borrow.Author.Needs.{needs}
 use Rattle.wesknuft.proofs.wesknuft_lower.Statement.{statement}
@@ -19,7 +20,7 @@ same-length c = search needs
 returns : tie.Need-returns
 returns c =
     let a = rw (c .before .n .given .1) at (c .before .before .before .before .before .lower .ensures) in
-    record { answer = a .answer; left = a .left; within = omega arith }
+    record { answer = a .answer; left = a .left; within = omega arith; rest = refl }
 
 same-length-2 : tie.Need-same-length-2
 same-length-2 c = search needs
@@ -27,7 +28,7 @@ same-length-2 c = search needs
 returns-2 : tie.Need-returns-2
 returns-2 c =
     let a = rw (c .before .k .given .1) at (c .before .before .before .before .before .lower .ensures) in
-    record { answer = a .answer; left = a .left; within = a .within }
+    record { answer = a .answer; left = a .left; within = a .within; rest = (refl, refl) }
 
 pub wesknuft-lower-spec : {M : Type 1} → statement M
 wesknuft-lower-spec = tie.close (tie.spec lower-requires enum-known-n enum-known-k same-length returns same-length-2 returns-2)
