@@ -157,13 +157,21 @@ fn cap_sum(
     Capped::Within(total)
 }
 
+// The whole bytes that hold so many bits, by a shift: a host may divide slowly.
+fn whole_bytes(width: u64) -> u64
+    requires { ⌜ width ≤ 8192 ⌝ }
+    ensures { λ r. ⌜ r ≡ (width + 7) / 8 ⌝ }
+{
+    (width + 7) >> 3
+}
+
 fn bits_size(width: u64) -> Capped
     ensures { λ r. ⌜ cappedOf r ≡ capped type-size-limit ((width + 7) / 8) ⌝ }
 {
     if 8192 < width {
         return Capped::Over;
     }
-    cap(1024, (width + 7) / 8)
+    cap(1024, whole_bytes(width))
 }
 
 fn array_size(rows: &[u64], lists: &[u64], types: u64, start: usize, n: usize) -> Capped
