@@ -1,14 +1,13 @@
 -- THE STEP of the nineteen binary operators, at every width.
-use Prim.Native.Nat.{ℕ, suc, _+_, _-_, _*_, _/_, _%_, _^_, _<_}
-use mathlib.Core.Bool.{Bool, true, false, _||_}
+use Prim.Native.Nat.{ℕ, suc, _%_, _^_, _<_}
+use mathlib.Core.Bool.{Bool, true, false}
 use mathlib.Core.List.{List, [], _∷_}
 use mathlib.Core.Option.{Option, none, some}
 use mathlib.Core.Path.{_≡_, refl, sym, ap, _∙_}
 use native.Mathlib.Omega.{arith}
-use native.Mathlib.Nat.{le-refl, le-trans, mod-eq-of-lt, mul-assoc, mul-comm, add-mul-mod-self-left, div-add-mod'}
-use lib.Pow.{pow-mono}
-use lib.Dec.{eqb, leb}
-use borrow.Author.Tests.{eqb-true, leb-true}
+use native.Mathlib.Nat.{le-refl, mod-eq-of-lt}
+use lib.Dec.{eqb}
+use borrow.Author.Tests.{eqb-true}
 use lib.ListN.{length}
 use Rattle.spec.specs.Hir.{IntegerBinaryOp}
 use Rattle.spec.specs.Hir as hir
@@ -41,20 +40,20 @@ use Rattle.spec.specs.Arithmetic.{
   binary-instructions,
   lower-integer-binary,
 }
-use Rattle.numerics.specs.Numerics.{iadd, isub, iand, ior, ixor, ishl, ishr-u, ishr-s, irotl, irotr}
+use Rattle.numerics.specs.Numerics.{iadd, isub, iand, ior, ixor}
 use Rattle.spec.specs.Machine.{Memory, Given, bytes-of, operands, byte-op, distance, shift-op, binary-op, defined, effect}
-use Rattle.spec.specs.Eval.{number, binary-numeric, distance-fits}
+use Rattle.spec.specs.Eval.{number, binary-numeric}
 use Rattle.spec.proofs.RunLogic.{both}
-use Rattle.spec.proofs.RunWords.{size, some-byte, mask-last}
+use Rattle.spec.proofs.RunWords.{size, mask-last}
 use Rattle.spec.proofs.RunLaws.{add-word, sub-word, bitwise-word}
 use Rattle.spec.proofs.RunBounds.{shift-lt, whole-lt, add-lt, sub-lt, bitwise-lt}
 use Rattle.spec.proofs.RunRuns.{effects, Total, no-more, and-then, total-zip}
-use Rattle.spec.proofs.RunFrames.{agree-refl, Fixed, at, add-loop, sub-loop, bitwise-loop}
+use Rattle.spec.proofs.RunFrames.{at, add-loop, sub-loop, bitwise-loop}
 use Rattle.spec.proofs.RunRotate.{turned, byte-rotates-run, total-byte-rotates, first-is, lowest-is, turned-shift}
 use Rattle.spec.proofs.RunHoare.{From, _then_, _next_, ending, allocates-carry, emitting, emitting-one, got, at-it}
 use Rattle.spec.proofs.RunTyping.{IsBits}
 use Rattle.spec.proofs.RunValues.{Word, Gives}
-use Rattle.spec.proofs.RunSteps.{Wrote, temporary, destinations, width-is, finish, number-is, looped, spreads}
+use Rattle.spec.proofs.RunSteps.{Wrote, temporary, destinations, width-is, finish, amount-is, number-is, looped, spreads}
 
 -- ---------------------------------------------------------------- the forms' numbers
 
@@ -65,13 +64,6 @@ form-number subtracting w a b = some (isub w a b)
 form-number (bytewise op) w a b = some (byte-op op a b)
 form-number (shifting op) w a b = some (shift-op op w a b)
 form-number (whole op) w a b = binary-op op w a b
-
-abbrev pub form-fits : BinaryForm → ℕ → Bool
-form-fits adding w = true
-form-fits subtracting w = true
-form-fits (bytewise op) w = true
-form-fits (shifting op) w = leb w 8 || eqb (256 % w) 0
-form-fits (whole op) w = true
 
 -- each operator's number is its form's
 pub form-numeric : (op : IntegerBinaryOp) (w a b : ℕ) → form-number (binary-form op) w a b ≡ binary-numeric op w a b
@@ -96,56 +88,7 @@ form-numeric (hir.saturating-add hir.unsigned) w a b = refl
 form-numeric (hir.saturating-subtract hir.signed) w a b = refl
 form-numeric (hir.saturating-subtract hir.unsigned) w a b = refl
 
-form-distance : (op : IntegerBinaryOp) (w : ℕ) → form-fits (binary-form op) w ≡ distance-fits op w
-unfolding binary-form distance-fits
-form-distance hir.add w = refl
-form-distance hir.subtract w = refl
-form-distance hir.multiply w = refl
-form-distance (hir.divide hir.signed) w = refl
-form-distance (hir.divide hir.unsigned) w = refl
-form-distance (hir.remainder hir.signed) w = refl
-form-distance (hir.remainder hir.unsigned) w = refl
-form-distance hir.and w = refl
-form-distance hir.or w = refl
-form-distance hir.xor w = refl
-form-distance hir.shift-left w = refl
-form-distance (hir.shift-right hir.signed) w = refl
-form-distance (hir.shift-right hir.unsigned) w = refl
-form-distance hir.rotate-left w = refl
-form-distance hir.rotate-right w = refl
-form-distance (hir.saturating-add hir.signed) w = refl
-form-distance (hir.saturating-add hir.unsigned) w = refl
-form-distance (hir.saturating-subtract hir.signed) w = refl
-form-distance (hir.saturating-subtract hir.unsigned) w = refl
-
--- ---------------------------------------------------------------- the distance: the amount's lowest byte
-
--- the lowest byte decides a distance where the width divides 256
-multiple : (w q b : ℕ) → q * w ≡ 256 → b % 256 % w ≡ b % w
-multiple w q b d =
-    sym (ap (λ (x : ℕ). x % w) (let e : b ≡ b % 256 + 256 * (b / 256) = omega arith in e)
-    ∙ ap (λ (x : ℕ). (b % 256 + x) % w) (ap (λ (x : ℕ). x * (b / 256)) (sym d ∙ mul-comm q w) ∙ mul-assoc w q (b / 256))
-    ∙ add-mul-mod-self-left (b % 256) w (q * (b / 256)))
-
-lowest-decides : (w b : ℕ) → b < 2 ^ w → leb w 8 || eqb (256 % w) 0 ≡ true → b % 256 % w ≡ b % w
-lowest-decides w b h e = go (leb w 8) refl (eqb (256 % w) 0) refl e
-  where
-    go : (s : Bool) → leb w 8 ≡ s → (t : Bool) → eqb (256 % w) 0 ≡ t → s || t ≡ true → b % 256 % w ≡ b % w
-    go true p t q e = ap (λ (x : ℕ). x % w) (mod-eq-of-lt (le-trans h (pow-mono {i = w} {j = 8} (leb-true w 8 p))))
-    go false p true q e = multiple w (256 / w) b (let z = eqb-true (256 % w) 0 q in omega (arith, div-add-mod' 256 w))
-    go false p false q e = cc
-
-shift-modulo : (op : ShiftOp) (w a i j : ℕ) → i % w ≡ j % w → shift-op op w a i ≡ shift-op op w a j
-unfolding shift-op ishl ishr-u ishr-s irotl irotr
-shift-modulo lir.shift-left w a i j e = rw e refl
-shift-modulo lir.shift-right-unsigned w a i j e = rw e refl
-shift-modulo lir.shift-right-signed w a i j e = rw e refl
-shift-modulo lir.rotate-left w a i j e = rw e refl
-shift-modulo lir.rotate-right w a i j e = rw e refl
-
-distance-is : (k b : ℕ) {n : ℕ} {M : Memory} {bs : List ByteOperand} → Fixed n M bs (bytes-of (suc k) b) → distance (operands M bs) ≡ b % 256
-unfolding distance bytes-of
-distance-is k b {M = M} h = ap distance (h .holds M agree-refl)
+-- ---------------------------------------------------------------- shifts
 
 -- instructions that write x
 pub record Writes (G : Given) (w n x : ℕ) (M : Memory) (ks : List InstructionKind) : Type 0 where
@@ -170,8 +113,7 @@ module _ (G : Given) where
         };
       }
 
-  module _ {w n a b : ℕ} {M : Memory} {ls rs : List ByteOperand} (p : 0 < w) (hl : Word w n M ls a) (hr : Word w n M rs b)
-      (f : leb w 8 || eqb (256 % w) 0 ≡ true) where
+  module _ {w n a b : ℕ} {M : Memory} {ls rs : List ByteOperand} (p : 0 < w) (hl : Word w n M ls a) (hr : Word w n M rs b) where
     eight : byte-rotate w (bytes-from n 0 (size w)) ls rs ≡ true → (w ≡ 8) × (all-immediate rs ≡ true)
     unfolding byte-rotate
     eight e =
@@ -179,15 +121,12 @@ module _ (G : Given) where
         (eqb-true w 8 ((both (eqb w 8) _ ((both _ (eqb (length ls) 1) (c .0)) .0)) .0), c .1)
 
     one-shift : (op : ShiftOp) → Writes G w n (shift-op op w a b) M (shift-bytes op w (bytes-from n 0 (size w)) ls rs ∷ [])
-    unfolding defined effect
+    unfolding defined effect distance
     one-shift op =
         record {
           total = and-then (λ M. refl) no-more;
-          wrote = rw (number-is hl, near) (spreads (shift-lt op w a b p (hl .fits)));
+          wrote = rw (number-is hl, amount-is hr) (spreads (shift-lt op w a b p (hl .fits)));
         }
-      where
-        near : shift-op op w a (distance (operands M rs)) ≡ shift-op op w a b
-        near = shift-modulo op w a _ b (ap (λ (x : ℕ). x % w) (distance-is ((w - 1) / 8) b (rw (some-byte w p) at (hr .fixed))) ∙ lowest-decides w b (hr .fits) f)
 
     -- a byte turned by a constant, or one instruction
     turned-or-shifted : (op : ShiftOp) (dir : RotateDirection) → rotate-direction op ≡ some dir → (t : Bool) → byte-rotate w (bytes-from n 0 (size w)) ls rs ≡ t
@@ -227,11 +166,11 @@ module _ (G : Given) where
         ending G (emitting G _ (total-zip _ (L .total) 0 _ ls rs))
         (looped G a b (suc n) L (hl .fixed) (hr .fixed) (omega arith) refl (bitwise-word op w a b (hl .fits) (hr .fits)))
 
-    all-shifted : (op : ShiftOp) → leb w 8 || eqb (256 % w) 0 ≡ true
+    all-shifted : (op : ShiftOp)
         → From G (suc n) M (binary-instructions T (shifting op) ty (bytes-from n 0 (size w)) ls rs) (Wrote w n (shift-op op w a b) M)
     unfolding binary-instructions shifts
-    all-shifted op f =
-        let W = shifted (B .some-width) hl hr f op (rotate-direction op) refl in
+    all-shifted op =
+        let W = shifted (B .some-width) hl hr op (rotate-direction op) refl in
         _then_ G (width-is G T ty B) (at-it G (ending G (emitting G _ (W .total)) (W .wrote)))
 
     worked-whole : (op : IntegerBinaryBytesOp) (x : ℕ) → binary-op op w a b ≡ some x
@@ -242,13 +181,13 @@ module _ (G : Given) where
         let s = number-is hr in
         _then_ G (width-is G T ty B) (at-it G (ending G (emitting-one G _ (rw (r, s, e) refl)) (rw (r, s, e) (spreads (whole-lt op w a b (hl .fits) e)))))
 
-    instructed : (form : BinaryForm) (x : ℕ) → form-fits form w ≡ true → form-number form w a b ≡ some x
+    instructed : (form : BinaryForm) (x : ℕ) → form-number form w a b ≡ some x
         → From G (suc n) M (binary-instructions T form ty (bytes-from n 0 (size w)) ls rs) (Wrote w n x M)
-    instructed adding x f e = let q : iadd w a b ≡ x = cc in rw (← q) added
-    instructed subtracting x f e = let q : isub w a b ≡ x = cc in rw (← q) subtracted
-    instructed (bytewise op) x f e = let q : byte-op op a b ≡ x = cc in rw (← q) (bytes-worked op)
-    instructed (shifting op) x f e = let q : shift-op op w a b ≡ x = cc in rw (← q) (all-shifted op f)
-    instructed (whole op) x f e = worked-whole op x e
+    instructed adding x e = let q : iadd w a b ≡ x = cc in rw (← q) added
+    instructed subtracting x e = let q : isub w a b ≡ x = cc in rw (← q) subtracted
+    instructed (bytewise op) x e = let q : byte-op op a b ≡ x = cc in rw (← q) (bytes-worked op)
+    instructed (shifting op) x e = let q : shift-op op w a b ≡ x = cc in rw (← q) (all-shifted op)
+    instructed (whole op) x e = worked-whole op x e
 
     below : (form : BinaryForm) (x : ℕ) → form-number form w a b ≡ some x → x < 2 ^ w
     below adding x e = let q : iadd w a b ≡ x = cc in rw (← q) (add-lt w a b)
@@ -257,11 +196,11 @@ module _ (G : Given) where
     below (shifting op) x e = let q : shift-op op w a b ≡ x = cc in rw (← q) (shift-lt op w a b (B .some-width) (hl .fits))
     below (whole op) x e = whole-lt op w a b (hl .fits) e
 
-    -- operands that denote a and b, a distance that fits, a defined result x: the value denotes x
-    pub binary-step : (op : IntegerBinaryOp) (t₁ t₂ x : ℕ) → distance-fits op w ≡ true → binary-numeric op w a b ≡ some x
+    -- operands that denote a and b, a defined result x: the value denotes x
+    pub binary-step : (op : IntegerBinaryOp) (t₁ t₂ x : ℕ) → binary-numeric op w a b ≡ some x
         → From G n M (lower-integer-binary T op (value t₁ (bytes-value ls)) (value t₂ (bytes-value rs)) ty) (Gives T n M ty (number (size w) x))
     unfolding lower-integer-binary value-bytes
-    binary-step op t₁ t₂ x f e =
+    binary-step op t₁ t₂ x e =
         let e′ = form-numeric op w a b ∙ e in
         _then_ G (got G 24 ls) (at-it G (_then_ G (got G 24 rs) (at-it G (_then_ G (temporary G T ty B) (at-it G (_then_ G (destinations G T ty _ B) (at-it G
-        (_next_ G (instructed (binary-form op) x (form-distance op w ∙ f) e′) (finish G T ty B (below (binary-form op) x e′))))))))))
+        (_next_ G (instructed (binary-form op) x e′) (finish G T ty B (below (binary-form op) x e′))))))))))

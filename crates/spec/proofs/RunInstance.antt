@@ -1,13 +1,14 @@
 -- The examples' tables meet the premises on a readable ticket; and document 01's printed case, for every number in the variable.
-use Prim.Native.Nat.{ℕ, zero, suc, _^_, _≤_, _<_}
+use Prim.Native.Nat.{_^_, _<_}
 use mathlib.Core.List.{map}
 use mathlib.Core.Path.{_≡_, refl}
 use native.Mathlib.Omega.{arith}
 use borrow.Author.Tests.{lt-ltb}
 use Rattle.spec.specs.Hir.{Expr, integer, read, integer-binary, variable}
 use Rattle.spec.specs.Hir as hir
-use Rattle.spec.specs.Ticket.{typeAt, arg, tBits, nowhere}
-use Rattle.spec.specs.Readable.{TypesRight, All-below, type-parts, Counted}
+use Rattle.spec.specs.Text.{text}
+use Rattle.spec.specs.Ticket.{nowhere}
+use Rattle.spec.specs.Readable.{TypesRight}
 use Rattle.spec.specs.Lir.{stored, Value}
 use Rattle.spec.specs.Monad.{Counters, Out, done}
 use Rattle.spec.specs.Allocation.{bytes-from}
@@ -17,54 +18,14 @@ use Rattle.spec.specs.Machine.{Memory, Proper, Given, le, operands}
 use Rattle.spec.specs.Eval.{number}
 use Rattle.spec.specs.RunNeeds.{NeedsOf}
 use Rattle.spec.proofs.RunNeeds.{placed-by-test}
-use Rattle.spec.specs.RunCases.{T, of-type}
-use Rattle.spec.proofs.RunExamples.{computing}
+use Rattle.spec.specs.RunCases.{T, ticket, of-type}
+use Rattle.spec.proofs.ReadingTicket.{readable}
+use Rattle.spec.proofs.RunExamples.{computing, is-read}
 use Rattle.spec.specs.RunClaims.{Ran}
 use Rattle.spec.proofs.RunSingle.{single}
 
--- what is true of each of the nine types, and of the numbers that no line has
-pub nine : (P : ℕ → Type 0) → P 0 → P 1 → P 2 → P 3 → P 4 → P 5 → P 6 → P 7 → P 8 → ((n : ℕ) → P (suc (suc (suc (suc (suc (suc (suc (suc (suc n)))))))))) → (ty : ℕ) → P ty
-nine P a b c d e f g h i r zero = a
-nine P a b c d e f g h i r (suc zero) = b
-nine P a b c d e f g h i r (suc (suc zero)) = c
-nine P a b c d e f g h i r (suc (suc (suc zero))) = d
-nine P a b c d e f g h i r (suc (suc (suc (suc zero)))) = e
-nine P a b c d e f g h i r (suc (suc (suc (suc (suc zero))))) = f
-nine P a b c d e f g h i r (suc (suc (suc (suc (suc (suc zero)))))) = g
-nine P a b c d e f g h i r (suc (suc (suc (suc (suc (suc (suc zero))))))) = h
-nine P a b c d e f g h i r (suc (suc (suc (suc (suc (suc (suc (suc zero)))))))) = i
-nine P a b c d e f g h i r (suc (suc (suc (suc (suc (suc (suc (suc (suc n))))))))) = r n
-
--- a type that is not bits
-no-bits : {A : Type 0} → _≡_ {A = ℕ} 0 1 → A
-no-bits z = absurd (omega arith)
-
 pub types-right : TypesRight T
-unfolding All-below type-parts Counted
-types-right = record {
-  two = omega arith;
-  bool-first = refl;
-  pointer-second = refl;
-  counted = nine (λ ty. Counted ((typeAt T ty) .word) ((typeAt T ty) .args)) refl refl refl refl refl refl refl refl refl (λ n. refl);
-  sized = nine _ refl refl refl refl refl refl refl refl refl (λ n. refl);
-  weighed = nine _ refl refl refl refl refl refl refl refl refl (λ n. refl);
-  width-least =
-      nine (λ ty. (typeAt T ty) .word ≡ tBits → 1 ≤ arg ((typeAt T ty) .args) 0) (λ e. no-bits cc) (λ e. no-bits cc)
-      (λ e. omega arith) (λ e. omega arith) (λ e. omega arith) (λ e. omega arith) (λ e. omega arith) (λ e. omega arith) (λ e. no-bits cc) (λ n e. no-bits cc);
-  width-most =
-      nine (λ ty. (typeAt T ty) .word ≡ tBits → arg ((typeAt T ty) .args) 0 ≤ 64) (λ e. omega arith) (λ e. omega arith)
-      (λ e. omega arith) (λ e. omega arith) (λ e. omega arith) (λ e. omega arith) (λ e. omega arith) (λ e. omega arith) (λ e. omega arith) (λ n e. omega arith);
-  size-most =
-      nine (λ ty. (typeAt T ty) .size ≤ 1024) (omega arith) (omega arith) (omega arith) (omega arith) (omega arith) (omega arith) (omega arith) (omega arith)
-      (omega arith) (λ n. omega arith);
-  weight-most =
-      nine (λ ty. (typeAt T ty) .weight ≤ 4096) (omega arith) (omega arith) (omega arith) (omega arith) (omega arith) (omega arith) (omega arith) (omega arith)
-      (omega arith) (λ n. omega arith);
-  parts-earlier = nine (λ ty. All-below ty (type-parts ((typeAt T ty) .word) ((typeAt T ty) .args))) tt tt tt tt tt tt tt tt (omega arith, tt) (λ n. tt);
-  depth-most =
-      nine (λ ty. (typeAt T ty) .depth ≤ 16) (omega arith) (omega arith) (omega arith) (omega arith) (omega arith) (omega arith) (omega arith) (omega arith)
-      (omega arith) (λ n. omega arith);
-}
+types-right = (readable (text ticket) T is-read) .types
 
 pub needs : NeedsOf T
 needs = record { variables = placed-by-test T (T .variables) refl; statics = placed-by-test T (T .statics) refl }

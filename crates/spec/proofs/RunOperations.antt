@@ -48,7 +48,6 @@ use Rattle.spec.specs.Eval.{
   read-data,
   read-inside,
   fits,
-  distance-fits,
   in-order,
 }
 use Rattle.spec.proofs.RunLogic.{both}
@@ -179,10 +178,10 @@ module _ (G : Given) (T : Tables) (R : TypesRight T) (N : NeedsOf T) (n₀ : ℕ
       (_then_ G (ih (t₁ .1) (s .it) (s .is) n M z a) (number-after G T (eqb-true _ _ (t₂ .1)) B (λ bs n₁ M₁ l₁ a₁ w₁.
       owned G h (rebased G l₁ a₁ (unary-step G T (h .ty) B w₁ op (h .ty))))))
 
-  pub binary-case : (h : At) (op : IntegerBinaryOp) (l r : Expr) → typed T (integer-binary h op l r) ≡ true → distance-fits op (width T (h .ty)) ≡ true
+  pub binary-case : (h : At) (op : IntegerBinaryOp) (l r : Expr) → typed T (integer-binary h op l r) ≡ true
       → (typed T l ≡ true → Lowers l) → (typed T r ≡ true → Lowers r) → Lowers (integer-binary h op l r)
   unfolding typed eval lower-expression
-  binary-case h op l r t f il ir d v n M z a =
+  binary-case h op l r t il ir d v n M z a =
       let t₅ = both _ _ t in
       let t₄ = both _ _ (t₅ .0) in
       let t₃ = both _ _ (t₄ .0) in
@@ -194,7 +193,7 @@ module _ (G : Given) (T : Tables) (R : TypesRight T) (N : NeedsOf T) (n₀ : ℕ
       rw (← by-width T B (x .same))
       (_then_ G (il (t₄ .1) (s .it) (s .is) n M z a) (number-after G T (eqb-true _ _ (t₂ .1)) B (λ ls n₁ M₁ l₁ a₁ w₁.
       _then_ G (ir (t₅ .1) (u .it) (u .is) n₁ M₁ (le-trans z l₁) (agree-trans z a a₁)) (number-after G T (eqb-true _ _ (t₃ .1)) B (λ rs n₂ M₂ l₂ a₂ w₂.
-      owned G h (rebased G (le-trans l₁ l₂) (agree-trans l₁ a₁ a₂) (binary-step G T (h .ty) B (word-later l₂ a₂ w₁) w₂ op (h .ty) (h .ty) (x .it) f (x .is))))))))
+      owned G h (rebased G (le-trans l₁ l₂) (agree-trans l₁ a₁ a₂) (binary-step G T (h .ty) B (word-later l₂ a₂ w₁) w₂ op (h .ty) (h .ty) (x .it) (x .is))))))))
 
   pub compare-case : (h : At) (op : CompareOp) (l r : Expr) → typed T (compare h op l r) ≡ true
       → (typed T l ≡ true → Lowers l) → (typed T r ≡ true → Lowers r) → Lowers (compare h op l r)

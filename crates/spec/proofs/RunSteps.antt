@@ -88,11 +88,13 @@ module _ (G : Given) (T : Tables) where
 
 -- ---------------------------------------------------------------- what the instructions read and write
 
+-- the number of all bytes of an operand list
+pub amount-is : {w n a : ℕ} {M : Memory} {bs : List ByteOperand} → Word w n M bs a → le (operands M bs) ≡ a
+amount-is {w} {n} {a} {M} h = ap le (h .fixed .holds M agree-refl) ∙ le-exact (size w) a (le-trans (h .fits) (room-le w))
+
 -- what an instruction that cites the numerics reads
 pub number-is : {w n a : ℕ} {M : Memory} {bs : List ByteOperand} → Word w n M bs a → le (operands M bs) % 2 ^ w ≡ a
-number-is {w} {n} {a} {M} {bs} h =
-    ap (λ (l : List ℕ). le l % 2 ^ w) (h .fixed .holds M agree-refl)
-    ∙ ap (λ (x : ℕ). x % 2 ^ w) (le-exact (size w) a (le-trans (h .fits) (room-le w))) ∙ mod-eq-of-lt (h .fits)
+number-is {w} h = ap (λ (x : ℕ). x % 2 ^ w) (amount-is h) ∙ mod-eq-of-lt (h .fits)
 
 -- a chain of instructions, byte by byte
 pub looped : (G : Given) {w n x : ℕ} {M : Memory} {ls rs : List ByteOperand} {ins : ℕ → ByteStorage → ByteOperand → ByteOperand → InstructionKind}

@@ -244,8 +244,7 @@ module _ (G : Given) (T : Tables) (R : TypesRight T) (N : NeedsOf T) (n₀ : ℕ
     rightly (integer-binary h op l r) t s o =
         let s₁ = both _ _ s in
         let o₁ = both _ _ o in
-        let o₂ = both _ _ (o₁ .0) in
-        binary-case G T R N n₀ older M₀ P h op l r t (o₂ .0) (λ q. rightly l q (s₁ .0) (o₂ .1)) (λ q. rightly r q (s₁ .1) (o₁ .1))
+        binary-case G T R N n₀ older M₀ P h op l r t (λ q. rightly l q (s₁ .0) (o₁ .0)) (λ q. rightly r q (s₁ .1) (o₁ .1))
     rightly (float-unary h e) t s o = never-true t
     rightly (float-binary h l r) t s o = never-true t
     rightly (compare h op l r) t s o =

@@ -1,6 +1,6 @@
 -- What an expression means in a memory, by the WebAssembly numerics; what a lowered value's pieces hold; and when reads are in order.
 use Prim.Native.Nat.{ℕ, zero, suc, _+_, _%_, _^_}
-use mathlib.Core.Bool.{Bool, true, false, _&&_, _||_, not}
+use mathlib.Core.Bool.{Bool, true, false, _&&_, not}
 use mathlib.Core.List.{List, [], _∷_, map}
 use mathlib.Core.Option.{Option, none, some}
 use lib.Dec.{eqb, leb, ltb}
@@ -336,23 +336,6 @@ module _ (T : Tables) where
 
 -- ---------------------------------------------------------------- premises of the running claims
 
--- a shift's distance at a width that does not divide 256: the lowest byte decides only where the amount has no other
-unfoldable pub distance-fits : IntegerBinaryOp → ℕ → Bool
-distance-fits hir.add N = true
-distance-fits hir.subtract N = true
-distance-fits hir.multiply N = true
-distance-fits (hir.divide s) N = true
-distance-fits (hir.remainder s) N = true
-distance-fits hir.and N = true
-distance-fits hir.or N = true
-distance-fits hir.xor N = true
-distance-fits hir.shift-left N = leb N 8 || eqb (256 % N) 0
-distance-fits (hir.shift-right s) N = leb N 8 || eqb (256 % N) 0
-distance-fits hir.rotate-left N = leb N 8 || eqb (256 % N) 0
-distance-fits hir.rotate-right N = leb N 8 || eqb (256 % N) 0
-distance-fits (hir.saturating-add s) N = true
-distance-fits (hir.saturating-subtract s) N = true
-
 -- a storage's bytes: 1 for kind 1, LENGTH for kind 2, none for 0 and 3
 unfoldable pub storage-bytes : StorageLine → ℕ
 storage-bytes s = pick (eqb (s .kind) 1) 1 (pick (eqb (s .kind) 2) (s .len) 0)
@@ -395,7 +378,7 @@ module _ (T : Tables) where
   fits-by ty none = true
   fits-by ty (some d) = fits type-depth-limit ty d
 
-  -- every read inside, every constant and number read fitting its width, every distance fitting
+  -- every read inside, every constant and number read fitting its width
   module _ (M : Memory) where
     unfoldable mutual
       pub in-order : Expr → Bool
@@ -408,7 +391,7 @@ module _ (T : Tables) where
       in-order (function-address h f) = true
       in-order (read h p) = read-inside p (h .ty) && fits-by (h .ty) (read-data T M p (h .ty))
       in-order (integer-unary h op e) = in-order e
-      in-order (integer-binary h op l r) = distance-fits op (width T (h .ty)) && in-order l && in-order r
+      in-order (integer-binary h op l r) = in-order l && in-order r
       in-order (float-unary h e) = in-order e
       in-order (float-binary h l r) = in-order l && in-order r
       in-order (compare h op l r) = in-order l && in-order r

@@ -149,10 +149,9 @@ spread ds n M = set-bytes ds (bytes-of (length ds) n) M
 
 -- ---------------------------------------------------------------- operators
 
--- the number that a shift takes modulo WIDTH: the amount's lowest byte
+-- the number that a shift takes modulo WIDTH: the whole amount, all its bytes
 unfoldable pub distance : List ℕ → ℕ
-distance [] = 0
-distance (b ∷ bs) = b
+distance bs = le bs
 
 abbrev pub byte-op : ByteBinaryOp → ℕ → ℕ → ℕ
 byte-op lir.and x y = bitAnd x y

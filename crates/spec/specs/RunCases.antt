@@ -32,23 +32,23 @@ T = record {
   types =
       record { word = tBool; args = []; size = 1; weight = 1; depth = 1 } ∷ record { word = tPointer; args = []; size = 2; weight = 1; depth = 1 } ∷
       plain-type 8 1 ∷ plain-type 9 2 ∷ plain-type 16 2 ∷ plain-type 32 4 ∷ plain-type 64 8 ∷ plain-type 1 1 ∷
-      record { word = tArray; args = 2 ∷ 3 ∷ []; size = 3; weight = 4; depth = 2 } ∷ [];
+      record { word = tArray; args = 2 ∷ 3 ∷ []; size = 3; weight = 4; depth = 2 } ∷ plain-type 12 2 ∷ [];
   storages = record { kind = 2; len = 16; owner = 1; regions = 36 } ∷ record { kind = 0; len = 0; owner = 1; regions = 36 } ∷ [];
   variables =
       placed 0 0 2 0 ∷ placed 0 8 2 0 ∷ placed 0 0 3 0 ∷ placed 0 8 3 0 ∷ placed 0 0 4 0 ∷ placed 0 8 4 0 ∷ placed 0 0 5 0 ∷ placed 0 8 5 0 ∷
-      placed 0 0 6 0 ∷ placed 0 8 6 0 ∷ placed 1 0 0 1 ∷ placed 0 0 0 0 ∷ placed 0 0 8 0 ∷ placed 0 0 1 0 ∷ [];
+      placed 0 0 6 0 ∷ placed 0 8 6 0 ∷ placed 1 0 0 1 ∷ placed 0 0 0 0 ∷ placed 0 0 8 0 ∷ placed 0 0 1 0 ∷ placed 0 0 9 0 ∷ placed 0 8 9 0 ∷ [];
   statics = [];
   places = [];
-  nodes = record { type = 0; word = nBool; args = 1 ∷ []; line = 27; depth = 1 } ∷ [];
+  nodes = record { type = 0; word = nBool; args = 1 ∷ []; line = 30; depth = 1 } ∷ [];
 }
 
 -- the ticket that they are read from
 abbrev pub ticket : List String
 ticket =
-    "f,0,0" ∷ "t,bool" ∷ "t,pointer" ∷ "t,bits,8" ∷ "t,bits,9" ∷ "t,bits,16" ∷ "t,bits,32" ∷ "t,bits,64" ∷ "t,bits,1" ∷ "t,array,2,3" ∷
+    "f,0,0" ∷ "t,bool" ∷ "t,pointer" ∷ "t,bits,8" ∷ "t,bits,9" ∷ "t,bits,16" ∷ "t,bits,32" ∷ "t,bits,64" ∷ "t,bits,1" ∷ "t,array,2,3" ∷ "t,bits,12" ∷
     "s,2,16,1,36" ∷ "s,0,0,1,36" ∷
     "v,0,0,2,0" ∷ "v,0,8,2,0" ∷ "v,0,0,3,0" ∷ "v,0,8,3,0" ∷ "v,0,0,4,0" ∷ "v,0,8,4,0" ∷ "v,0,0,5,0" ∷ "v,0,8,5,0" ∷ "v,0,0,6,0" ∷ "v,0,8,6,0" ∷
-    "v,1,0,0,1" ∷ "v,0,0,0,0" ∷ "v,0,0,8,0" ∷ "v,0,0,1,0" ∷
+    "v,1,0,0,1" ∷ "v,0,0,0,0" ∷ "v,0,0,8,0" ∷ "v,0,0,1,0" ∷ "v,0,0,9,0" ∷ "v,0,8,9,0" ∷
     "n,0,bool,1" ∷ []
 
 -- ---------------------------------------------------------------- the memory
@@ -119,6 +119,10 @@ u8 = record { ty = 2; bytes = 1; first = 0 }
 abbrev pub u9 : Bits
 u9 = record { ty = 3; bytes = 2; first = 2 }
 
+-- the board of 12 valves
+abbrev pub u12 : Bits
+u12 = record { ty = 9; bytes = 2; first = 14 }
+
 abbrev pub u16 : Bits
 u16 = record { ty = 4; bytes = 2; first = 4 }
 
@@ -181,7 +185,7 @@ binaries =
     binary u16 hir.or 3840 255 4095 ∷ binary u64 hir.or 16045690984503098046 81985529216486895 16118382996767113215 ∷
     binary u9 hir.xor 511 12 499 ∷ binary u64 hir.xor 16045690984503098046 81985529216486895 16109089479814641489 ∷ []
 
--- shifts at the width's edge: a distance of the width is 0, the distance is the amount's lowest byte
+-- shifts at the width's edge: a distance of the width is 0
 abbrev pub shifts : List Case
 shifts =
     binary u8 hir.shift-left 129 1 2 ∷ binary u8 hir.shift-left 129 7 128 ∷ binary u8 hir.shift-left 129 8 129 ∷ binary u16 hir.shift-left 1 256 1 ∷
@@ -189,6 +193,14 @@ shifts =
     binary u8 (hir.shift-right hir.unsigned) 129 1 64 ∷ binary u8 (hir.shift-right hir.signed) 129 1 192 ∷ binary u8 (hir.shift-right hir.signed) 128 7 255 ∷
     binary u64 (hir.shift-right hir.signed) 9223372036854775808 63 18446744073709551615 ∷ binary u64 (hir.shift-right hir.unsigned) 9223372036854775808 64 9223372036854775808 ∷
     binary u16 hir.rotate-left 32769 1 3 ∷ binary u16 hir.rotate-right 32769 1 49152 ∷ binary u32 hir.rotate-left 2147483649 33 3 ∷ []
+
+-- a distance is the whole amount: at 12 valves 256 is 4, and not 0 as its lowest byte
+abbrev pub distances : List Case
+distances =
+    binary u12 hir.shift-left 1 256 16 ∷ by-constant u12 hir.shift-left 1 256 16 ∷ binary u12 hir.shift-left 1 255 8 ∷
+    binary u12 (hir.shift-right hir.unsigned) 2048 256 128 ∷ binary u12 (hir.shift-right hir.signed) 2048 256 3968 ∷
+    binary u12 hir.rotate-left 2049 256 24 ∷ binary u12 hir.rotate-right 2049 256 384 ∷ by-constant u12 hir.rotate-left 2049 4095 12 ∷
+    binary u9 (hir.shift-right hir.unsigned) 256 511 2 ∷ []
 
 -- a byte rotated by a constant
 abbrev pub rotates : List Case
