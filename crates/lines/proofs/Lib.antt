@@ -1,0 +1,5 @@
+pub mod Laws
+pub mod Stands
+pub mod Starts
+pub mod Parts
+pub mod Worked
