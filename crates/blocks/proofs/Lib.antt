@@ -1,0 +1,13 @@
+pub mod Packed
+pub mod Bits
+pub mod Below
+pub mod Square
+pub mod Words
+pub mod Squares
+pub mod Directions
+pub mod Inverse
+pub mod Filling
+pub mod Answering
+pub mod Mirroring
+pub mod Buffers
+pub mod Worked
