@@ -81,7 +81,7 @@ pub ruleset number-at = (number-past, number-value, number-unread)
 
 -- ---------------------------------------------------------------- the numbers to the line's end
 
-first-none : (ws : List (List ℕ)) → (ws ≡ [] → ⊥) → none ≡ first-number ws → numbers-of ws ≡ none
+pub first-none : (ws : List (List ℕ)) → (ws ≡ [] → ⊥) → none ≡ first-number ws → numbers-of ws ≡ none
 unfolding first-number numbers-of
 first-none [] h e = absurd (h refl)
 first-none (w ∷ ws) h e = by (number w) e
@@ -90,7 +90,7 @@ first-none (w ∷ ws) h e = by (number w) e
     by none q = refl
     by (some x) q = cc
 
-first-some : (ws : List (List ℕ)) (v : ℕ) (rest : List (List ℕ)) → some (record { value = v; rest = rest }) ≡ first-number ws
+pub first-some : (ws : List (List ℕ)) (v : ℕ) (rest : List (List ℕ)) → some (record { value = v; rest = rest }) ≡ first-number ws
     → numbers-of ws ≡ cons-number (some v) (numbers-of rest)
 unfolding first-number numbers-of
 first-some [] v rest e = cc

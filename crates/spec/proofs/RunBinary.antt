@@ -41,7 +41,7 @@ use Rattle.spec.specs.Arithmetic.{
   lower-integer-binary,
 }
 use Rattle.numerics.specs.Numerics.{iadd, isub, iand, ior, ixor}
-use Rattle.spec.specs.Machine.{Memory, Given, bytes-of, operands, byte-op, distance, shift-op, binary-op, defined, effect}
+use Rattle.spec.specs.Machine.{Memory, Given, bytes-of, byte-op, distance, shift-op, binary-op, defined, effect}
 use Rattle.spec.specs.Eval.{number, binary-numeric}
 use Rattle.spec.proofs.RunLogic.{both}
 use Rattle.spec.proofs.RunWords.{size, mask-last}

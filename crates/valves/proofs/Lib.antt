@@ -1,0 +1,9 @@
+pub mod Printed
+pub mod Masks
+pub mod Lists
+pub mod Answering
+pub mod Reading
+pub mod Bits
+pub mod Lowered
+pub mod Opened
+pub mod Examples
