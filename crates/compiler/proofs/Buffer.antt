@@ -15,7 +15,6 @@ use Rattle.spec.specs.Read as reading
 use Rattle.spec.specs.Machine.{Memory, Proper, Given}
 use Rattle.spec.specs.Typed.{typed, single-operation}
 use Rattle.spec.specs.Eval.{Data, eval, in-order}
-use Rattle.spec.specs.RunNeeds.{sound}
 use Rattle.spec.specs.Demands.{total-size, Costs, Leaves}
 use Rattle.spec.specs.Answer.{accepted, of-reading, answer, left-in}
 use Rattle.spec.specs.Answer as spec-answer
@@ -67,7 +66,7 @@ module _ (ticket buffer buffer′ : List ℕ) where
     demand-2-of-buffer T e = demand-2 ticket buffer (take k buffer′) T e (sym (a .answer))
 
     -- the same of a whole expression
-    pub whole-expression-of-buffer : (T : Tables) → read-ticket ticket ≡ reading.accepted T → typed T (root T) ≡ true → sound T (root T) ≡ true
+    pub whole-expression-of-buffer : (T : Tables) → read-ticket ticket ≡ reading.accepted T → typed T (root T) ≡ true
         → (G : Given) (M : Memory) → Proper M → in-order T M (root T) ≡ true → (d : Data) → eval T G M (root T) ≡ some d
         → Leaves G M (length (T .storages)) (take k buffer′) d
     whole-expression-of-buffer T e = whole-expression ticket buffer (take k buffer′) T e (sym (a .answer))

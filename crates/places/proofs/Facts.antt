@@ -2,7 +2,7 @@
 use mathlib.Core.Path.{_≡_, refl, ap, subst, _∙_}
 use mathlib.Core.Bool.{false}
 use mathlib.Core.List.{List, [], _∷_, _++_}
-use mathlib.Core.Option.{Option, some, Option·none-ne-some}
+use mathlib.Core.Option.{some, Option·none-ne-some}
 use Prim.Native.Nat.{ℕ, zero, suc, _+_, _-_, _*_, _≤_, _<_}
 use native.Mathlib.Omega.{arith}
 use native.Mathlib.Numerals.{add-one}
@@ -10,13 +10,14 @@ use native.Mathlib.Nat.{mul-le-mul-right, mul-comm}
 use lib.ListN.{getD}
 use Rattle.spec.specs.Limits.{offset-limit, type-size-limit}
 use Rattle.spec.specs.Ticket.{TypeWord, tUnit, tBool, tBits, tFloat, tPointer, tArray, tStruct, tTuple, tOpaque, PlacedLine, Tables, typeAt, arg, sum}
-use Rattle.spec.specs.Readable.{All, TypesRight, PlacedRight, Readable}
+use Rattle.spec.specs.Readable.{TypesRight, PlacedRight, Readable}
 use Rattle.spec.specs.Monad.{Lower, _>>=_}
 use Rattle.spec.specs.Operands.{nth}
 use Rattle.spec.specs.Allocation.{type-size}
 use Rattle.spec.specs.Places.{ArrayOf, is-one, fields-of, array-of, base-of, part-of, opaque-rest}
 use Rattle.spec.specs.Places as spec
 use Rattle.spec.specs.Allocation as allocation
+use Rattle.spec.proofs.ReadingLists.{All-nth}
 use Rattle.tables.specs.declared.Counts.{Counts}
 use Rattle.tables.specs.declared.PlacedAt.{PlacedAt}
 use Rattle.tables.specs.Tables.{tab, run, type-kind-at, type-word, type-args, size-at, tables-of, placed-line, placed-option}
@@ -108,17 +109,11 @@ module _ (T : Tables) (r : Readable T) where
   unfolding part-of type-size
   fine-part b f h = record { offset-most = h; size-most = r .types .size-most (f .ty); held = held-type (f .ty) }
 
-  all-nth : {A : Type 0} (P : A → Type 0) (xs : List A) (k : ℕ) (x : A) → All P xs → nth xs k ≡ some x → P x
-  unfolding All nth
-  all-nth P [] k x h e = absurd (Option·none-ne-some _ e)
-  all-nth P (y ∷ xs) zero x h e = let g : y ≡ x = cc in rw (← g) (h .0)
-  all-nth P (y ∷ xs) (suc k) x h e = all-nth P xs k x (h .1) e
-
   pub variable-right : (k : ℕ) (found : PlacedAt) → nth (T .variables) k ≡ placed-option found → AllRight T found
-  variable-right k found e = record { found = λ p g. all-nth (PlacedRight T) (T .variables) k (placed-line p) (r .variables) (e ∙ ap placed-option g) }
+  variable-right k found e = record { found = λ p g. All-nth (PlacedRight T) (T .variables) k (placed-line p) (r .variables) (e ∙ ap placed-option g) }
 
   pub static-right : (k : ℕ) (found : PlacedAt) → nth (T .statics) k ≡ placed-option found → AllRight T found
-  static-right k found e = record { found = λ p g. all-nth (PlacedRight T) (T .statics) k (placed-line p) (r .statics) (e ∙ ap placed-option g) }
+  static-right k found e = record { found = λ p g. All-nth (PlacedRight T) (T .statics) k (placed-line p) (r .statics) (e ∙ ap placed-option g) }
 
 pub fine-rest : (T : Tables) (b : spec.Base) (n : ℕ) → Fine T b → b .offset + n ≤ offset-limit → Fine T (opaque-rest T b n)
 unfolding opaque-rest

@@ -36,6 +36,7 @@ use Rattle.spec.specs.Ticket.{
   nOffset,
   nExtract,
   nInsert,
+  arg,
 }
 use Rattle.spec.specs.Forms.{
   Field,
@@ -98,9 +99,14 @@ pub record TypeFormed (w : TypeWord) (xa : List Arg) : Type 0 where
   pub width : Width w xa
   pub counted : Counted w (values xa)
 
+-- the nodes that a node refers to are its numbers of that class; a `bool` has one number, 0 or 1
+pub record NumbersFormed (w : NodeWord) (xa : List Arg) : Type 0 where
+  pub nodes : nodes-of-node w (values xa) ≡ node-values xa
+  pub of-bool : w ≡ nBool → xa ≡ record { class = between 0 1; value = arg (values xa) 0 } ∷ []
+
 -- a node's TYPE, and then what the word asks for
 pub data NodeFormed (w : NodeWord) : List Arg → Type 0 where
-  node-formed : {xa : List Arg} (ty : ℕ) → nodes-of-node w (values xa) ≡ node-values xa → NodeFormed w (record { class = type; value = ty } ∷ xa)
+  node-formed : {xa : List Arg} (ty : ℕ) → NumbersFormed w xa → NodeFormed w (record { class = type; value = ty } ∷ xa)
 
 abbrev pub Formed : Head → List Arg → Type 0
 Formed f-line xa = Args function-fields none xa
@@ -161,53 +167,50 @@ type-rules-formed = (
 )
 
 NodeRule : Rule NodeWord → Type 0
-NodeRule r = (xa : List Arg) → Args (r .fields) (r .rest) xa → nodes-of-node (r .make) (values xa) ≡ node-values xa
-
-abbrev Refers : NodeWord → List Arg → Type 0
-Refers w xa = nodes-of-node w (values xa) ≡ node-values xa
+NodeRule r = (xa : List Arg) → Args (r .fields) (r .rest) xa → NumbersFormed (r .make) xa
 
 node-rules-formed : All NodeRule node-rules
 unfolding All NodeRule nodes-of-node
 node-rules-formed = (
-  λ xa. filled (Refers nBool) (λ x. refl),
+  λ xa. filled (NumbersFormed nBool) (λ x. record { nodes = refl; of-bool = λ e. refl }),
   (
-    λ xa. filled (Refers nInt) (λ x. refl),
+    λ xa. filled (NumbersFormed nInt) (λ x. record { nodes = refl; of-bool = λ e. cc }),
     (
-      λ xa. filled (Refers nF32) (λ x. refl),
+      λ xa. filled (NumbersFormed nF32) (λ x. record { nodes = refl; of-bool = λ e. cc }),
       (
-        λ xa. filled (Refers nF64) (λ x. refl),
+        λ xa. filled (NumbersFormed nF64) (λ x. record { nodes = refl; of-bool = λ e. cc }),
         (
-          λ xa. filled (Refers nNull) refl,
+          λ xa. filled (NumbersFormed nNull) (record { nodes = refl; of-bool = λ e. cc }),
           (
-            λ xa. filled (Refers nStaticAddress) (λ x y. refl),
+            λ xa. filled (NumbersFormed nStaticAddress) (λ x y. record { nodes = refl; of-bool = λ e. cc }),
             (
-              λ xa. filled (Refers nFunction) (λ x. refl),
+              λ xa. filled (NumbersFormed nFunction) (λ x. record { nodes = refl; of-bool = λ e. cc }),
               (
-                λ xa. filled (Refers nRead) (λ x. refl),
+                λ xa. filled (NumbersFormed nRead) (λ x. record { nodes = refl; of-bool = λ e. cc }),
                 (
-                  λ xa. filled (Refers nUnary) (λ x y. refl),
+                  λ xa. filled (NumbersFormed nUnary) (λ x y. record { nodes = refl; of-bool = λ e. cc }),
                   (
-                    λ xa. filled (Refers nBinary) (λ x y z. refl),
+                    λ xa. filled (NumbersFormed nBinary) (λ x y z. record { nodes = refl; of-bool = λ e. cc }),
                     (
-                      λ xa. filled (Refers nFunary) (λ x. refl),
+                      λ xa. filled (NumbersFormed nFunary) (λ x. record { nodes = refl; of-bool = λ e. cc }),
                       (
-                        λ xa. filled (Refers nFbinary) (λ x y. refl),
+                        λ xa. filled (NumbersFormed nFbinary) (λ x y. record { nodes = refl; of-bool = λ e. cc }),
                         (
-                          λ xa. filled (Refers nCompare) (λ x y z. refl),
+                          λ xa. filled (NumbersFormed nCompare) (λ x y z. record { nodes = refl; of-bool = λ e. cc }),
                           (
-                            λ xa. filled (Refers nConvert) (λ x y. refl),
+                            λ xa. filled (NumbersFormed nConvert) (λ x y. record { nodes = refl; of-bool = λ e. cc }),
                             (
-                              λ xa. filled (Refers nSelect) (λ x y z. refl),
+                              λ xa. filled (NumbersFormed nSelect) (λ x y z. record { nodes = refl; of-bool = λ e. cc }),
                               (
-                                λ xa. filled (Refers nAddress) (λ x. refl),
+                                λ xa. filled (NumbersFormed nAddress) (λ x. record { nodes = refl; of-bool = λ e. cc }),
                                 (
-                                  λ xa. filled (Refers nOffset) (λ x y. refl),
+                                  λ xa. filled (NumbersFormed nOffset) (λ x y. record { nodes = refl; of-bool = λ e. cc }),
                                   (
-                                    λ xa. all-nodes,
+                                    λ xa h. record { nodes = all-nodes h; of-bool = λ e. cc },
                                     (
-                                      λ xa. filled (Refers nExtract) (λ x y. refl),
+                                      λ xa. filled (NumbersFormed nExtract) (λ x y. record { nodes = refl; of-bool = λ e. cc }),
                                       (
-                                        λ xa. filled (Refers nInsert) (λ x y z. refl),
+                                        λ xa. filled (NumbersFormed nInsert) (λ x y z. record { nodes = refl; of-bool = λ e. cc }),
                                         tt,
                                       ),
                                     ),

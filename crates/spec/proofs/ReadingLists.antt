@@ -1,9 +1,11 @@
 -- Facts of lists: what holds of every element, and sums.
-use Prim.Native.Nat.{ℕ, _+_, _≤_, _<_}
+use Prim.Native.Nat.{ℕ, zero, suc, _+_, _≤_, _<_}
 use mathlib.Core.List.{List, [], _∷_, _++_}
+use mathlib.Core.Option.{some, Option·none-ne-some}
 use mathlib.Core.Path.{_≡_, refl, ap₂}
 use native.Mathlib.Omega.{arith}
 use Rattle.spec.specs.Ticket.{sum}
+use Rattle.spec.specs.Operands.{nth}
 use Rattle.spec.specs.Readable.{All, All-below}
 
 pub All-of : {A : Type 0} (P : A → Type 0) (xs : List A) → ((x : A) → P x) → All P xs
@@ -20,6 +22,13 @@ pub All-append : {A : Type 0} (P : A → Type 0) (xs : List A) (y : A) → All P
 unfolding All
 All-append P [] y h p = (p, tt)
 All-append P (x ∷ xs) y h p = (h .0, All-append P xs y (h .1) p)
+
+-- what holds of every element holds of the one at a number
+pub All-nth : {A : Type 0} (P : A → Type 0) (xs : List A) (k : ℕ) (x : A) → All P xs → nth xs k ≡ some x → P x
+unfolding All nth
+All-nth P [] k x h e = absurd (Option·none-ne-some _ e)
+All-nth P (y ∷ xs) zero x h e = let g : y ≡ x = cc in rw (← g) (h .0)
+All-nth P (y ∷ xs) (suc k) x h e = All-nth P xs k x (h .1) e
 
 pub below-all : (n : ℕ) (P : ℕ → Type 0) (xs : List ℕ) → ((i : ℕ) → i < n → P i) → All-below n xs → All P xs
 unfolding All All-below

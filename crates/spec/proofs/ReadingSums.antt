@@ -39,10 +39,10 @@ new-node : (R : Reading) (n : ℕ) (w : NodeWord) (xa : List Arg) → NodeFormed
 unfolding refusal-of add-line
 new-node R n w xa (node-formed {xa = ya} ty q) e P =
     let l : Line = record { head = n-line w; args = record { class = type; value = ty } ∷ ya } in
-    pool-append (R .tables .nodes) (R .used .nodes) ((mark (l .args) (R .used)) .nodes) _ P (rw q (marks R l P e))
+    pool-append (R .tables .nodes) (R .used .nodes) ((mark (l .args) (R .used)) .nodes) _ P (rw (q .nodes) (marks R l P e))
     (record {
-      refs-earlier = rw q (nodes-below (R .tables) (l .args) (standing R l e));
-      refs-less-deep = rw q (nodes-less-deep (R .tables) (l .args));
+      refs-earlier = rw (q .nodes) (nodes-below (R .tables) (l .args) (standing R l e));
+      refs-less-deep = rw (q .nodes) (nodes-less-deep (R .tables) (l .args));
       depth-least = unfold depth-of in omega arith;
       depth-most = leb-true (depth-of (R .tables) (l .args)) depth-limit ((passed _ _ _ _ _ _ _ _ _ e) .depth);
     })

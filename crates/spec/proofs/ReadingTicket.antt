@@ -28,7 +28,8 @@ use Rattle.spec.specs.Read.{
   start,
   read-ticket,
 }
-use Rattle.spec.specs.Readable.{All, line-sum, TypesRight, Readable}
+use Rattle.spec.specs.Readable.{All, line-sum, TypesRight, root, Readable}
+use Rattle.spec.specs.RunNeeds.{bools-in-range}
 use Rattle.spec.proofs.ReadingLines.{Formed, line-formed}
 use Rattle.spec.proofs.ReadingTypes.{stored-size, no-type-right}
 use Rattle.spec.proofs.ReadingTables.{Counted, counted, Typed, typed, Head-of, headed}
@@ -36,6 +37,7 @@ use Rattle.spec.proofs.ReadingPlaced.{Placed, placed}
 use Rattle.spec.proofs.ReadingPool.{Pool}
 use Rattle.spec.proofs.ReadingSums.{Sums, summed, pooled}
 use Rattle.spec.proofs.ReadingTree.{root-sum}
+use Rattle.spec.proofs.ReadingBools.{Bools, bools-kept, bools-of-root}
 
 -- ---------------------------------------------------------------- the invariant
 
@@ -46,6 +48,7 @@ pub record Good (R : Reading) : Type 0 where
   pub placed : Placed (R .tables)
   pub sums : Sums R
   pub nodes : Pool (R .tables .nodes) (R .used .nodes)
+  pub bools : Bools (R .tables)
 
 pub good-start : Good start
 unfolding All line-sum
@@ -69,6 +72,7 @@ good-start =
             weights-most = omega arith;
           };
       nodes = record { marks = refl; right = λ k p. absurd (omega arith); still-open = λ f d. omega arith; each = λ f d k p. absurd (omega arith) };
+      bools = tt;
     }
 
 pub good-add : (R : Reading) (l : Line) → Formed (l .head) (l .args) → refusal-of R l ≡ none → Good R → Good (add R l)
@@ -81,6 +85,7 @@ good-add R l f e g =
       placed = placed R (suc (R .lines)) (l .head) (l .args) f e (g .placed);
       sums = summed R (l .head) (l .args) f e (g .sums);
       nodes = pooled R (l .head) (l .args) f e (g .nodes);
+      bools = bools-kept R (suc (R .lines)) (l .head) (l .args) f e (g .bools);
     }
 
 -- ---------------------------------------------------------------- the text
@@ -191,3 +196,9 @@ pub readable : (s : List ℕ) (T : Tables) → read-ticket s ≡ accepted T → 
 readable s T e =
     let end = reading-ends s T e in
     rw (end .tables-are) at (good-readable (end .state) (end .good) (end .some-node))
+
+-- a `bool` in the root's tree is 0 or 1
+pub bools-read : (s : List ℕ) (T : Tables) → read-ticket s ≡ accepted T → bools-in-range (root T) ≡ true
+bools-read s T e =
+    let end = reading-ends s T e in
+    rw (end .tables-are) at (bools-of-root (end .state .tables) (end .good .bools))

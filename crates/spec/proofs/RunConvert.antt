@@ -155,13 +155,13 @@ module _ (G : Given) (T : Tables) where
 
   -- ------------------------------------------------------------ BooleanToInteger
 
-  pub total-bit : (ds : List ByteStorage) (b : BitOperand) → Total (bit-to-bytes ds b)
+  total-bit : (ds : List ByteStorage) (b : BitOperand) → Total (bit-to-bytes ds b)
   unfolding bit-to-bytes defined
   total-bit [] b = no-more
   total-bit (d ∷ ds) b = and-then (λ M. refl) (total-map _ (λ d M. refl) ds)
 
   -- the bit in the first byte, 0 in the others
-  pub spelled : {n x : ℕ} {M : Memory} {b : BitOperand} (k : ℕ) → FixedBit n M b x
+  spelled : {n x : ℕ} {M : Memory} {b : BitOperand} (k : ℕ) → FixedBit n M b x
       → Left n n 0 (suc k) M (effects G (bit-to-bytes (bytes-from n 0 (suc k)) b) M) (x ∷ bytes-of k 0)
   unfolding bit-to-bytes effect bytes-from
   spelled {n} {x} {M} {b} k h =

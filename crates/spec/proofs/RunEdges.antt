@@ -1,4 +1,4 @@
--- Why `sound` is a premise of the whole rule: the smallest ticket that is rightly typed by the test and whose run leaves something else.
+-- Why an aggregate's TYPE must have parts to be rightly typed: the smallest ticket whose run else leaves something else than it means.
 use mathlib.Core.Bool.{true, false}
 use mathlib.Core.List.{[], _∷_}
 use mathlib.Core.Option.{some}
@@ -8,7 +8,6 @@ use Rattle.spec.specs.Hir.{Expr, boolean, select, aggregate, no-exprs}
 use Rattle.spec.specs.Typed.{typed}
 use Rattle.spec.specs.Eval.{number, parts, no-data, eval, in-order}
 use Rattle.spec.specs.Answer.{answer, accepted}
-use Rattle.spec.specs.RunNeeds.{sound}
 use Rattle.spec.specs.RunCases.{T, of-type, memory, given, leaves}
 use Rattle.spec.proofs.RunExamples.{computing}
 
@@ -23,16 +22,17 @@ listed : answer (text (
 unfolding computing
 listed = refl
 
--- rightly typed by the test, in order, and meaning no parts ..
-passes : (typed T empties ≡ true) × (in-order T (memory 0 0) empties ≡ true) × (eval T given (memory 0 0) empties ≡ some (parts no-data))
+-- in order, and meaning no parts ..
+means : (in-order T (memory 0 0) empties ≡ true) × (eval T given (memory 0 0) empties ≡ some (parts no-data))
 unfolding computing
-passes = (refl, refl, refl)
+means = (refl, refl)
 
 -- .. but what the run leaves is the byte that the new storage happens to hold
 differs : leaves empties (memory 0 0) ≡ some (number 1 0)
 unfolding computing
 differs = refl
 
-not-sound : sound T empties ≡ false
-unfolding sound
-not-sound = refl
+-- so it is not rightly typed: bits 8 has neither elements nor fields
+not-typed : typed T empties ≡ false
+unfolding computing
+not-typed = refl

@@ -12,7 +12,7 @@ use Rattle.spec.specs.Answer.{Answer, refused, accepted, answer}
 use Rattle.spec.specs.RunCases.{memory, given, after-run}
 use Rattle.spec.proofs.RunExamples.{computing}
 
-unfoldable reading-back : Unit {0}
+unfoldable pub reading-back : Unit {0}
 unfolding computing back.lines back.headed back.then back._>>=_ back.pure back.next back.times back.whole back.nth back.number back.byte-storage-of back.byte-operand-of back.bit-operand-of back.carry-of back.listed back.one-of back.shift-ops back.compare-ops back.unary-ops back.binary-ops back.purposes back.moved back.byte-binary back.carried back.address back.function back.shift back.compare back.select-byte back.select-bit back.bit-to-byte back.byte-to-bit back.sign-extend back.integer-unary back.integer-binary back.instruction-words back.find back.line-of back.lines-of back.several back.kind-of back.storage back.instruction back.done back.bit-shape back.bytes-shape back.aggregate-shape back.shape-words back.top back.values back.shaped back.value back.listing back.fields-of-lines back.lines-in back.read-listing
 reading-back = tt
 
@@ -24,9 +24,9 @@ abbrev run-answer : Memory → Answer → Option Data
 run-answer M (refused n l) = none
 run-answer M (accepted s) = run-listing M (back.read-listing s)
 
--- what the ticket's listing, in a buffer of 200 bytes, leaves in the value
-abbrev left-by : List String → Memory → Option Data
-left-by ticket M = run-answer M (answer (text ticket) 200)
+-- what the ticket's listing, in a buffer of 2,000 bytes, leaves in the value
+abbrev pub left-by : List String → Memory → Option Data
+left-by ticket M = run-answer M (answer (text ticket) 2000)
 
 -- document 01's printed case, with 505 in the variable
 printed-case : left-by ("f,0,0" ∷ "t,bool" ∷ "t,pointer" ∷ "t,bits,9" ∷ "s,2,2,1,36" ∷ "v,0,0,2,0" ∷ "p,variable,0" ∷

@@ -13,12 +13,13 @@ use Rattle.spec.specs.Machine as machine
 use Rattle.spec.specs.Typed as typing
 use Rattle.spec.specs.Eval as meaning
 use Rattle.spec.specs.Answer as answer
+use Rattle.spec.specs.RunNeeds as needs
 use Rattle.spec.specs.RunCases.{T, ticket, memory, all-shown}
 use Rattle.spec.specs.RunCases as cases
 
 -- to unfold `computing` is to unfold all that reading, lowering, running and the numerics compute by
 unfoldable pub computing : Unit {0}
-unfolding answer.computing numerics.signed numerics.unsigned numerics.sat-u numerics.sat-s numerics.iadd numerics.isub numerics.imul numerics.idiv-u numerics.idiv-s numerics.irem-u numerics.irem-s numerics.ineg numerics.iadd-sat-u numerics.iadd-sat-s numerics.isub-sat-u numerics.isub-sat-s numerics.inot numerics.iand numerics.ior numerics.ixor numerics.shifted-left numerics.shifted-right numerics.rotated-left numerics.rotated-right numerics.top-bits numerics.sign-bit numerics.ishl numerics.ishr-u numerics.ishr-s numerics.irotl numerics.irotr numerics.significant numerics.trailing numerics.ones numerics.iclz numerics.ictz numerics.ipopcnt numerics.ieqz numerics.ieq numerics.ine numerics.ilt-u numerics.ilt-s numerics.igt-u numerics.igt-s numerics.ile-u numerics.ile-s numerics.ige-u numerics.ige-s numerics.extend-u numerics.extend-s numerics.wrap machine.le machine.bytes-of machine.set-byte machine.set-bit machine.set-bytes machine.set-carry machine.distance machine.shift-op machine.compare-op machine.unary-op machine.binary-op machine.defined machine.effect machine.step machine.run typing.is-bits typing.part-type typing.conversion-typed typing.typed typing.is-leaf typing.single-operation meaning.data-of meaning.part-at meaning.set-part meaning.unary-numeric meaning.binary-numeric meaning.compare-numeric meaning.located meaning.based meaning.plain-data meaning.element-data meaning.field-data meaning.word-data meaning.stored-data meaning.read-data meaning.conversion-data meaning.eval meaning.storage-bytes meaning.read-inside meaning.fits meaning.in-order
+unfolding answer.computing numerics.signed numerics.unsigned numerics.sat-u numerics.sat-s numerics.iadd numerics.isub numerics.imul numerics.idiv-u numerics.idiv-s numerics.irem-u numerics.irem-s numerics.ineg numerics.iadd-sat-u numerics.iadd-sat-s numerics.isub-sat-u numerics.isub-sat-s numerics.inot numerics.iand numerics.ior numerics.ixor numerics.shifted-left numerics.shifted-right numerics.rotated-left numerics.rotated-right numerics.top-bits numerics.sign-bit numerics.ishl numerics.ishr-u numerics.ishr-s numerics.irotl numerics.irotr numerics.significant numerics.trailing numerics.ones numerics.iclz numerics.ictz numerics.ipopcnt numerics.ieqz numerics.ieq numerics.ine numerics.ilt-u numerics.ilt-s numerics.igt-u numerics.igt-s numerics.ile-u numerics.ile-s numerics.ige-u numerics.ige-s numerics.extend-u numerics.extend-s numerics.wrap machine.le machine.bytes-of machine.set-byte machine.set-bit machine.set-bytes machine.set-carry machine.distance machine.shift-op machine.compare-op machine.unary-op machine.binary-op machine.defined machine.effect machine.step machine.run typing.is-bits typing.part-type typing.conversion-typed typing.typed typing.is-leaf typing.single-operation meaning.data-of meaning.part-at meaning.set-part meaning.unary-numeric meaning.binary-numeric meaning.compare-numeric meaning.located meaning.based meaning.plain-data meaning.element-data meaning.field-data meaning.word-data meaning.stored-data meaning.read-data meaning.conversion-data meaning.eval meaning.storage-bytes meaning.read-inside meaning.fits meaning.in-order needs.bools-in-range
 computing = tt
 
 -- ---------------------------------------------------------------- the tables and memories

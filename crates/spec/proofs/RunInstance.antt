@@ -22,7 +22,7 @@ use Rattle.spec.specs.RunCases.{T, ticket, of-type}
 use Rattle.spec.proofs.ReadingTicket.{readable}
 use Rattle.spec.proofs.RunExamples.{computing, is-read}
 use Rattle.spec.specs.RunClaims.{Ran}
-use Rattle.spec.proofs.RunSingle.{single}
+use Rattle.spec.proofs.RunFinal.{running}
 
 pub types-right : TypesRight T
 types-right = (readable (text ticket) T is-read) .types
@@ -42,4 +42,4 @@ printed-case : (G : Given) (M : Memory) → Proper M → le (operands M (map sto
     → Ran G M 2 v o (number 2 (iadd 9 (le (operands M (map stored (bytes-from 0 0 2)))) 12))
 unfolding computing
 printed-case G M P h v c o q =
-    single T types-right needs plus-12 refl refl G M P (rw (lt-ltb _ _ h) refl) _ refl nowhere (record { storage = 2; temporary = 0 }) (omega arith) v c o q
+    running T types-right needs plus-12 refl refl G M P (rw (lt-ltb _ _ h) refl) _ refl nowhere (record { storage = 2; temporary = 0 }) (omega arith) v c o q

@@ -58,7 +58,7 @@ use Rattle.spec.proofs.RunTyping.{IsBits, has-bits, has-bool, by-width,
 use Rattle.spec.proofs.RunValues.{of-bit, of-bytes, Gives, here, rebased, word-later}
 use Rattle.spec.proofs.RunBinary.{binary-step}
 use Rattle.spec.proofs.RunUnary.{unary-step, compare-step}
-use Rattle.spec.specs.RunNeeds.{NeedsOf, sound}
+use Rattle.spec.specs.RunNeeds.{NeedsOf, bools-in-range}
 use Rattle.spec.proofs.RunPlaces.{read-step}
 use Rattle.spec.proofs.RunPointer.{function-step, static-step, address-of-step}
 use Rattle.spec.proofs.RunAfters.{number-after, retyped}
@@ -98,8 +98,8 @@ module _ (G : Given) (T : Tables) (R : TypesRight T) (N : NeedsOf T) (n₀ : ℕ
 
   -- ------------------------------------------------------------ leaves
 
-  pub boolean-case : (h : At) (b : ℕ) → typed T (boolean h b) ≡ true → sound T (boolean h b) ≡ true → Lowers (boolean h b)
-  unfolding typed sound eval lower-expression
+  pub boolean-case : (h : At) (b : ℕ) → typed T (boolean h b) ≡ true → bools-in-range (boolean h b) ≡ true → Lowers (boolean h b)
+  unfolding typed bools-in-range eval lower-expression
   boolean-case h b t s d v n M z a =
       let k : flag b ≡ d = of-some _ _ v in
       let e : h .ty ≡ 0 = eqb-true (h .ty) 0 t in

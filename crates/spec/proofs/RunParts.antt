@@ -17,14 +17,13 @@ use Rattle.spec.specs.Monad.{or-refuse}
 use Rattle.spec.specs.Operands.{nth, nth-value, set-value, value-type, value-repr}
 use Rattle.spec.specs.Lower.{lower-extract, lower-insert}
 use Rattle.spec.specs.Machine.{Memory, Given}
-use Rattle.spec.specs.Typed.{type-of, part-of-word, part-type, typed, parts-typed}
+use Rattle.spec.specs.Typed.{type-of, part-of-word, has-parts, part-type, typed, parts-typed}
 use Rattle.spec.specs.Eval.{Data, parts, Datas, part, parts-in, part-at, set-part}
 use Rattle.spec.proofs.RunLogic.{both, never-true}
 use Rattle.spec.proofs.RunFrames.{agree-refl}
 use Rattle.spec.proofs.RunHoare.{From, _then_, ending, purely, got, missing, at-it, option-then, refused-first, never}
 use Rattle.spec.proofs.RunTyping.{Has, has-array, has-struct, has-tuple, HasAll, has-more}
 use Rattle.spec.proofs.RunValues.{Denotes, of-unit, of-bit, of-bytes, of-parts, DenoteAll, of-none, of-more, Gives}
-use Rattle.spec.specs.RunNeeds.{has-parts}
 
 -- ---------------------------------------------------------------- the types of a type's parts
 

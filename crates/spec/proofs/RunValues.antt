@@ -13,7 +13,7 @@ use Rattle.spec.specs.Monad.{Lower, _>>=_, pure}
 use Rattle.spec.specs.Operands.{value-type, value-repr}
 use Rattle.spec.specs.Machine.{Memory, Given, le, bytes-of, operands, bit-of, set-bit}
 use Rattle.spec.specs.Eval.{Data, empty, flag, number, parts, Datas, no-data, part, data-of, repr-data, datas-of}
-use Rattle.spec.proofs.RunWords.{size, length-bytes-of, le-exact, pow-256-pos}
+use Rattle.spec.proofs.RunWords.{size, length-bytes-of, le-exact}
 use Rattle.spec.proofs.RunFrames.{Agree, agree-refl, agree-trans, agree-bit, bit-here, Fixed}
 use Rattle.spec.proofs.RunHoare.{From, After, _then_, weaken, ending, purely}
 use Rattle.spec.proofs.RunTyping.{Has, HasAll, has-none, has-more, has-number, has-array, has-struct, has-tuple, plain-room}
@@ -137,12 +137,6 @@ counted M (b ∷ bs) = ap suc (counted M bs)
 number-holds : (M : Memory) (bs : List ByteOperand) (k x : ℕ) → operands M bs ≡ bytes-of k x → x < 256 ^ k → repr-data M (bytes-value bs) ≡ number k x
 unfolding repr-data
 number-holds M bs k x e l = ap₂ number (counted M bs ∙ ap length e ∙ length-bytes-of k x) (ap le e ∙ le-exact k x l)
-
--- a bit's number in the first byte
-pub of-bytes-data : (M : Memory) (bs : List ByteOperand) (k x : ℕ) → operands M bs ≡ x ∷ bytes-of k 0 → repr-data M (bytes-value bs) ≡ number (suc k) x
-unfolding repr-data le
-of-bytes-data M bs k x e =
-    ap₂ number (counted M bs ∙ ap length e ∙ ap suc (length-bytes-of k 0)) (ap le e ∙ (let z = le-exact k 0 (pow-256-pos k) in omega arith))
 
 holds-more : {t : ℕ} {d : Data} {ds : Datas} (M : Memory) (v : Value) (vs : Values) → value-type v ≡ t → repr-data M (value-repr v) ≡ d → datas-of M vs ≡ ds
     → datas-of M (v ∷ᵛ vs) ≡ part t d ds

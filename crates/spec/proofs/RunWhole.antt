@@ -43,7 +43,7 @@ use Rattle.spec.specs.Monad.{Lower}
 use Rattle.spec.specs.Lower.{as-bit, lower-expression, lower-expressions}
 use Rattle.numerics.specs.Numerics.{truth, ine}
 use Rattle.spec.specs.Machine.{Memory, Proper, Given, pick}
-use Rattle.spec.specs.Typed.{type-of, is-bits, width, part-type, typed, parts-typed}
+use Rattle.spec.specs.Typed.{type-of, is-bits, width, has-parts, part-type, typed, parts-typed}
 use Rattle.spec.specs.Eval.{Data, parts, Datas, number-in, parts-in, set-part, eval, evals, in-order, all-in-order}
 use Rattle.spec.proofs.RunLogic.{both, either, never-true}
 use Rattle.spec.proofs.RunFrames.{Agree, agree-trans}
@@ -51,7 +51,7 @@ use Rattle.spec.proofs.RunHoare.{From, _then_, weaken, owned}
 use Rattle.spec.proofs.RunTyping.{bits-of-test}
 use Rattle.spec.proofs.RunValues.{Gives, GivesAll, rebased, word-later, denotes-later, gathered, nothing-read, one-more}
 use Rattle.spec.proofs.RunConvert.{Bit, bit-as-bit, number-as-bit}
-use Rattle.spec.specs.RunNeeds.{NeedsOf, has-parts, sound, all-sound}
+use Rattle.spec.specs.RunNeeds.{NeedsOf, bools-in-range, all-bools-in-range}
 use Rattle.spec.proofs.RunPointer.{offset-step}
 use Rattle.spec.proofs.RunSelect.{select-step}
 use Rattle.spec.proofs.RunParts.{types-of, type-is, parts-of, part-type-is, have-parts, part-typed, all-typed, extract-step, insert-step}
@@ -173,12 +173,13 @@ module _ (G : Given) (T : Tables) (R : TypesRight T) (N : NeedsOf T) (n₀ : ℕ
   AllRightly es = (ds : Datas) → evals T G M₀ es ≡ some ds → (n : ℕ) (M : Memory) → n₀ ≤ n → Agree n₀ M₀ M
       → From G n M (lower-expressions T es) (GivesAll T n M (types-of es) ds)
 
-  pub aggregate-case : (h : At) (es : Exprs) → typed T (aggregate h es) ≡ true → has-parts ((typeAt T (h .ty)) .word) ≡ true → AllRightly es → Rightly (aggregate h es)
+  pub aggregate-case : (h : At) (es : Exprs) → typed T (aggregate h es) ≡ true → (parts-typed T es (h .ty) 0 ≡ true → AllRightly es) → Rightly (aggregate h es)
   unfolding typed eval lower-expression
-  aggregate-case h es t w ih d v n M z a =
+  aggregate-case h es t ih d v n M z a =
+      let t₁ = both (has-parts ((typeAt T (h .ty)) .word)) (parts-typed T es (h .ty) 0) t in
       let s = found-map parts (evals T G M₀ es) v in
-      let e = all-typed T es (h .ty) 0 (parts-of T (h .ty)) (λ j. ap (part-type T (h .ty)) (let y : 0 + j ≡ j = omega arith in y) ∙ part-type-is T (h .ty) j) t in
-      rw (← s .same) (_then_ G (ih (s .it) (s .is) n M z a) (gathered G T (λ q. have-parts T (h .ty) w (rw e at q))))
+      let e = all-typed T es (h .ty) 0 (parts-of T (h .ty)) (λ j. ap (part-type T (h .ty)) (let y : 0 + j ≡ j = omega arith in y) ∙ part-type-is T (h .ty) j) (t₁ .1) in
+      rw (← s .same) (_then_ G (ih (t₁ .1) (s .it) (s .is) n M z a) (gathered G T (λ q. have-parts T (h .ty) (t₁ .0) (rw e at q))))
 
   pub nothing-case : AllRightly no-exprs
   unfolding evals lower-expressions
@@ -229,9 +230,9 @@ module _ (G : Given) (T : Tables) (R : TypesRight T) (N : NeedsOf T) (n₀ : ℕ
   -- ------------------------------------------------------------ the induction
 
   mutual
-    unfolding typed sound in-order
+    unfolding typed bools-in-range in-order
 
-    pub rightly : (e : Expr) → typed T e ≡ true → sound T e ≡ true → in-order T M₀ e ≡ true → Rightly e
+    pub rightly : (e : Expr) → typed T e ≡ true → bools-in-range e ≡ true → in-order T M₀ e ≡ true → Rightly e
     rightly (boolean h b) t s o = boolean-case G T R N n₀ older M₀ P h b t s
     rightly (integer h v) t s o = integer-case G T R N n₀ older M₀ P h v t o
     rightly (float32 h v) t s o = never-true t
@@ -263,14 +264,14 @@ module _ (G : Given) (T : Tables) (R : TypesRight T) (N : NeedsOf T) (n₀ : ℕ
         let s₁ = both _ _ s in
         let o₁ = both _ _ o in
         offset-case h b x t (λ q. rightly b q (s₁ .0) (o₁ .0)) (λ q. rightly x q (s₁ .1) (o₁ .1))
-    rightly (aggregate h es) t s o = let s₁ = both _ _ s in aggregate-case h es t (s₁ .0) (all-rightly es (h .ty) 0 t (s₁ .1) o)
+    rightly (aggregate h es) t s o = aggregate-case h es t (λ q. all-rightly es (h .ty) 0 q s o)
     rightly (extract-element h e i) t s o = extract-case h e i t (λ q. rightly e q s o)
     rightly (insert-element h e i w) t s o =
         let s₁ = both _ _ s in
         let o₁ = both _ _ o in
         insert-case h e i w t (λ q. rightly e q (s₁ .0) (o₁ .0)) (λ q. rightly w q (s₁ .1) (o₁ .1))
 
-    pub all-rightly : (es : Exprs) (ty i : ℕ) → parts-typed T es ty i ≡ true → all-sound T es ≡ true → all-in-order T M₀ es ≡ true → AllRightly es
+    pub all-rightly : (es : Exprs) (ty i : ℕ) → parts-typed T es ty i ≡ true → all-bools-in-range es ≡ true → all-in-order T M₀ es ≡ true → AllRightly es
     all-rightly no-exprs ty i t s o = nothing-case
     all-rightly (e ∷ᵉ es) ty i t s o =
         let s₁ = both _ _ s in

@@ -20,7 +20,7 @@ pub pow-256 : (k : ℕ) → 256 ^ k ≡ 2 ^ (8 * k)
 pow-256 zero = refl
 pow-256 (suc k) = pow-suc 256 k ∙ ap (λ (x : ℕ). x * 256) (pow-256 k) ∙ sym (pow-add 2 (8 * k) 8) ∙ ap (λ (x : ℕ). 2 ^ x) (omega arith)
 
-pub pow-256-pos : (k : ℕ) → 0 < 256 ^ k
+pow-256-pos : (k : ℕ) → 0 < 256 ^ k
 pow-256-pos k = pow-le-pow-right {n = 256} (omega arith) zero-le
 
 pub length-bytes-of : (k n : ℕ) → length (bytes-of k n) ≡ k
@@ -188,10 +188,6 @@ mask-bytes r (suc k) n h =
 
 abbrev pub size : ℕ → ℕ
 size w = (w + 7) / 8
-
--- a width has a first byte
-pub some-byte : (w : ℕ) → 0 < w → size w ≡ suc ((w - 1) / 8)
-some-byte w p = omega arith
 
 pub bytes-of-mod : (k n : ℕ) → bytes-of k (n % 256 ^ k) ≡ bytes-of k n
 unfolding bytes-of

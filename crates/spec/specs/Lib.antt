@@ -26,3 +26,4 @@ pub mod Demands
 pub mod RunNeeds
 pub mod RunClaims
 pub mod RunCases
+pub mod Alike

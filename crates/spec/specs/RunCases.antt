@@ -57,8 +57,9 @@ ticket =
 abbrev pub memory : ℕ → ℕ → Memory
 memory a b = record { byte = λ s o. getD (bytes-of 8 a ++ bytes-of 8 b) o 0 % 256; bit = λ s. 1 }
 
+-- bases near the end of the memory, so that addresses wrap around
 abbrev pub given : Given
-given = record { base = λ s. 0; function = λ f. 0 }
+given = record { base = λ s. 65500 + s; function = λ f. 1000 + f }
 
 -- ---------------------------------------------------------------- what a case shows
 

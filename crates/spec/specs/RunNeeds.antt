@@ -1,6 +1,6 @@
 -- What running needs of a readable ticket besides its types, and of an expression besides its types.
 use Prim.Native.Nat.{ℕ, _<_}
-use mathlib.Core.Bool.{Bool, true, false, _&&_}
+use mathlib.Core.Bool.{Bool, true, _&&_}
 use mathlib.Core.Option.{some}
 use mathlib.Core.Path.{_≡_}
 use lib.Dec.{leb}
@@ -31,7 +31,7 @@ use Rattle.spec.specs.Hir.{
   no-exprs,
   _∷ᵉ_,
 }
-use Rattle.spec.specs.Ticket.{TypeWord, tUnit, tBool, tBits, tFloat, tPointer, tArray, tStruct, tTuple, tOpaque, PlacedLine, Tables, typeAt}
+use Rattle.spec.specs.Ticket.{PlacedLine, Tables}
 use Rattle.spec.specs.Operands.{nth}
 
 -- a variable or a static names an older storage, and is a bit only as a bool
@@ -43,42 +43,30 @@ pub record NeedsOf (T : Tables) : Type 0 where
   pub variables : (k : ℕ) (p : PlacedLine) → nth (T .variables) k ≡ some p → Placed T p
   pub statics : (k : ℕ) (p : PlacedLine) → nth (T .statics) k ≡ some p → Placed T p
 
-abbrev pub has-parts : TypeWord → Bool
-has-parts tUnit = false
-has-parts tBool = false
-has-parts tBits = false
-has-parts tFloat = false
-has-parts tPointer = false
-has-parts tArray = true
-has-parts tStruct = true
-has-parts tTuple = true
-has-parts tOpaque = false
+-- every `bool` that lowering comes to is 0 or 1: reading sees to it
+unfoldable mutual
+  pub bools-in-range : Expr → Bool
+  bools-in-range (boolean h b) = leb b 1
+  bools-in-range (integer h v) = true
+  bools-in-range (float32 h v) = true
+  bools-in-range (float64 h v) = true
+  bools-in-range (null-pointer h) = true
+  bools-in-range (static-address h k o) = true
+  bools-in-range (function-address h f) = true
+  bools-in-range (read h p) = true
+  bools-in-range (integer-unary h op e) = bools-in-range e
+  bools-in-range (integer-binary h op l r) = bools-in-range l && bools-in-range r
+  bools-in-range (float-unary h e) = true
+  bools-in-range (float-binary h l r) = true
+  bools-in-range (compare h op l r) = bools-in-range l && bools-in-range r
+  bools-in-range (convert h op e) = bools-in-range e
+  bools-in-range (select h t f c) = bools-in-range t && bools-in-range f && bools-in-range c
+  bools-in-range (address-of h p) = true
+  bools-in-range (pointer-offset h b o) = bools-in-range b && bools-in-range o
+  bools-in-range (aggregate h es) = all-bools-in-range es
+  bools-in-range (extract-element h e i) = bools-in-range e
+  bools-in-range (insert-element h e i w) = bools-in-range e && bools-in-range w
 
--- every `bool` is 0 or 1, and every aggregate's TYPE is an array, a struct or a tuple
-module _ (T : Tables) where
-  unfoldable mutual
-    pub sound : Expr → Bool
-    sound (boolean h b) = leb b 1
-    sound (integer h v) = true
-    sound (float32 h v) = true
-    sound (float64 h v) = true
-    sound (null-pointer h) = true
-    sound (static-address h k o) = true
-    sound (function-address h f) = true
-    sound (read h p) = true
-    sound (integer-unary h op e) = sound e
-    sound (integer-binary h op l r) = sound l && sound r
-    sound (float-unary h e) = true
-    sound (float-binary h l r) = true
-    sound (compare h op l r) = sound l && sound r
-    sound (convert h op e) = sound e
-    sound (select h t f c) = sound t && sound f && sound c
-    sound (address-of h p) = true
-    sound (pointer-offset h b o) = sound b && sound o
-    sound (aggregate h es) = has-parts ((typeAt T (h .ty)) .word) && all-sound es
-    sound (extract-element h e i) = sound e
-    sound (insert-element h e i w) = sound e && sound w
-
-    pub all-sound : Exprs → Bool
-    all-sound no-exprs = true
-    all-sound (e ∷ᵉ es) = sound e && all-sound es
+  pub all-bools-in-range : Exprs → Bool
+  all-bools-in-range no-exprs = true
+  all-bools-in-range (e ∷ᵉ es) = bools-in-range e && all-bools-in-range es

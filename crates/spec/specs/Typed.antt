@@ -89,6 +89,18 @@ part-of-word tStruct xs i = nth xs i
 part-of-word tTuple xs i = nth xs i
 part-of-word tOpaque xs i = none
 
+-- a type with elements or fields, if only none of them: an aggregate of another TYPE matches nothing
+abbrev pub has-parts : TypeWord → Bool
+has-parts tUnit = false
+has-parts tBool = false
+has-parts tBits = false
+has-parts tFloat = false
+has-parts tPointer = false
+has-parts tArray = true
+has-parts tStruct = true
+has-parts tTuple = true
+has-parts tOpaque = false
+
 abbrev is-type : Option ℕ → ℕ → Bool
 is-type none ty = false
 is-type (some t) ty = eqb t ty
@@ -141,7 +153,7 @@ module _ (T : Tables) where
         eqb (type-of t) (h .ty) && eqb (type-of f) (h .ty) && (eqb (type-of c) bool-type || is-bits (type-of c)) && typed t && typed f && typed c
     typed (address-of h p) = eqb (h .ty) pointer-type
     typed (pointer-offset h b o) = eqb (h .ty) pointer-type && eqb (type-of b) pointer-type && is-bits (type-of o) && typed b && typed o
-    typed (aggregate h es) = parts-typed es (h .ty) 0
+    typed (aggregate h es) = has-parts ((typeAt T (h .ty)) .word) && parts-typed es (h .ty) 0
     typed (extract-element h e i) = is-type (part-type (type-of e) i) (h .ty) && typed e
     typed (insert-element h e i w) = eqb (type-of e) (h .ty) && is-type (part-type (h .ty) i) (type-of w) && typed e && typed w
 
