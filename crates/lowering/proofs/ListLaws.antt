@@ -7,38 +7,18 @@ use lib.ListN.{length, getD}
 use lib.Seq.{sets, length-sets}
 use Rattle.spec.specs.Ticket.{Tables, exprAt, nowhere}
 use Rattle.spec.specs.Readable.{TypesRight}
-use Rattle.spec.specs.Monad as monad
-use Rattle.spec.specs.Monad.{Out}
 use Rattle.spec.specs.Lower.{lower-expression, lower-expressions}
-use Rattle.text.specs.Put.{Put, last, sat}
 use Rattle.values.specs.declared.State.{State}
 use Rattle.values.specs.declared.Value.{Value as Val}
 use Rattle.values.specs.declared.Lowered.{Lowered}
 use Rattle.values.specs.declared.Listed.{Listed}
-use Rattle.values.specs.Heads.{Head}
-use Rattle.values.specs.Left.{Bufs, counters-in, at-top, value-words, Left, MeetsValue, MeetsList, DoneValue}
+use Rattle.values.specs.Left.{Bufs, counters-in, at-top, value-words, MeetsValue, MeetsList, DoneValue}
 use Rattle.values.specs.Laws.{Placed, with-stack}
+use Rattle.reads.proofs.PartLaws.{placed-behind}
 use Rattle.lowering.specs.Forms.{kids}
 use Rattle.lowering.specs.Rooms.{TreeRoom, ListRoom}
 use Rattle.lowering.proofs.RoomLaws.{head-fits, first-room, rest-room}
 use Rattle.lowering.proofs.CycleLaws.{no-parts, part-refused, part-meets}
-
--- ---------------------------------------------------------------- positions behind a step
-
--- a position stops at the last
-capped : {l vs l1 : List ℕ} {at r : ℕ} → Put l at vs l1 r → r ≤ last
-unfolding sat
-capped p = omega (arith, p .next)
-
--- a text keeps its length
-fits-behind : {l vs l1 : List ℕ} {at r : ℕ} → Put l at vs l1 r → length l1 ≤ last
-fits-behind {l} {vs} {l1} {at} p = rw (p .text, length-sets l at vs) (p .fits)
-
--- so what a step leaves can be worked with
-placed-behind : {b b1 : Bufs} {s s1 : State} {hs : List Head} {cs : monad.Counters} {o : Out} → Left b s hs cs o b1 s1 → Placed b1 s1
-placed-behind k =
-    let a = k .appends in
-    record { code = fits-behind (a .coded); store = fits-behind (a .stored); at = capped (a .coded); stored = capped (a .stored) }
 
 -- ---------------------------------------------------------------- the parts that are left
 

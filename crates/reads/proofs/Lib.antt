@@ -1,3 +1,4 @@
 pub mod Lines
 pub mod Bounds
 pub mod Laws
+pub mod PartLaws

@@ -229,18 +229,28 @@ fn read_parts(rows: &[u64], nodes: &[u64], lists: &[u64], counts: Counts, code: 
     requires { ⌜ (Readable (tables-of (now rows) (now nodes) (now lists) counts)) × (PartsRoom (tables-of (now rows) (now nodes) (now lists) counts) (part-types (now lists) parts i n) o s (now stack)) × (i + n ≤ 4294967296) ⌝ }
     ensures { λ r. ⌜ ((m : List ℕ) → MeetsList n (bufs (now (code .entry)) (now (store .entry)) m (now (stack .entry))) s (read-fields (tables-of (now (rows .entry)) (now (nodes .entry)) (now (lists .entry)) counts) (λ t p. read-bytes-as-type (tables-of (now (rows .entry)) (now (nodes .entry)) (now (lists .entry)) counts) depth (storage .0) t p) o (part-types (now (lists .entry)) parts i n) (at-of h) (counters-in s)) (bufs (now (code .exit)) (now (store .exit)) m (now (stack .exit))) r) ⌝ }
 {
-    if n == 0 {
-        return Listed::Done(s);
-    }
-    let top = s.top;
-    let part = part_at(rows, lists, counts, parts, i);
-    match read_bytes_as_type(rows, nodes, lists, counts, code, store, stack, values::at_top(s, top + 8), storage, part.ty, o, depth, h) {
-        Lowered::Refused(x, y) => Listed::Refused(x, y),
-        Lowered::Done(v, s1) => {
-            store_head(stack, top, v);
-            read_parts(rows, nodes, lists, counts, code, store, stack, s1, storage, parts, i + 1, n - 1, o + part.size, depth, h)
+    // m parts are left, from part j on, at byte p.
+    let mut t = s;
+    let mut j = i;
+    let mut m = n;
+    let mut p = o;
+    while m != 0 {
+        let top = t.top;
+        let part = part_at(rows, lists, counts, parts, j);
+        match read_bytes_as_type(rows, nodes, lists, counts, code, store, stack, values::at_top(t, top + 8), storage, part.ty, p, depth, h) {
+            Lowered::Refused(x, y) => {
+                return Listed::Refused(x, y);
+            }
+            Lowered::Done(v, s1) => {
+                store_head(stack, top, v);
+                t = s1;
+                j += 1;
+                m -= 1;
+                p += part.size;
+            }
         }
     }
+    Listed::Done(t)
 }
 
 // A location's value: a bit, or the bytes that stand there.
