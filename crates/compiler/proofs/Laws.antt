@@ -1,14 +1,16 @@
 -- What the runs of the lowering leave, where the listing's sections end, and the listing as its sections one after the other.
-use Prim.Native.Nat.{ℕ, zero, suc, _+_, _-_, _*_, _≤_, _<_}
+use Prim.Native.Nat.{ℕ, zero, suc, _+_, _-_, _*_, _/_, _≤_, _<_}
 use mathlib.Core.Path.{_≡_, refl, sym, ap, subst, _∙_}
 use mathlib.Core.Bool.{Bool, true, false}
+use mathlib.Core.Logic.{_⊎_, inl, inr, ⊎-elim}
 use mathlib.Core.List.{List, _++_, append-nil, append-assoc}
 use native.Mathlib.Omega.{arith}
 use native.Mathlib.Numerals.{add-one}
-use lib.Dec.{leb}
-use borrow.Author.Tests.{le-leb, lt-leb}
-use lib.ListN.{length, take, drop, getD, replicate, length-replicate, length-append, length-drop, drop-of-length-le}
-use lib.Seq.{sets, sets-eq, length-sets, length-take-le, take-at, take-all}
+use borrow.Author.Count.{below-more}
+use lib.Dec.{leb, ltb}
+use borrow.Author.Tests.{le-leb, lt-leb, ltb-true, ltb-false}
+use lib.ListN.{length, take, drop, getD, set, length-set, length-append, length-drop, drop-of-length-le, List·getD-eq-default}
+use lib.Seq.{getD-set-same, getD-set-other, sets, sets-eq, length-sets, length-take-le, take-at, take-all}
 use Rattle.spec.specs.Hir.{Expr}
 use Rattle.spec.specs.Ticket.{NodeLine, Tables, exprAt, nowhere}
 use Rattle.spec.specs.Readable.{Readable, line-sum, root}
@@ -46,7 +48,8 @@ use Rattle.compiler.specs.declared.Answer.{Answer}
 use Rattle.compiler.specs.declared.Tried.{Tried}
 use Rattle.compiler.specs.declared.Sections.{Sections}
 use Rattle.compiler.specs.declared.Measured.{Measured}
-use Rattle.compiler.specs.Shown.{Answers, case-tried, Tries, room-bytes}
+use Rattle.compiler.specs.Shown.{Answers, tried-of, case-tried, Tries}
+use Rattle.compiler.specs.Lent.{FewWords, FewRead, FewRows, Short}
 use Rattle.lowering.specs.Rooms.{TreeRoom}
 use Rattle.compiler.specs.Sections.{
   start-of,
@@ -92,11 +95,31 @@ module _ (rows nodes lists : List ℕ) (n : Counts) where
 pub rest-is : (rows : List ℕ) → take (length rows - 30) (drop 30 rows) ≡ drop 30 rows
 rest-is rows = take-all (length rows - 30) (drop 30 rows) (omega (arith, length-drop 30 rows))
 
--- no mark is set
-zeros : (n i : ℕ) → _≡_ {A = ℕ} (getD (replicate n 0) i 0) 0
-zeros zero i = refl
-zeros (suc n) zero = refl
-zeros (suc n) (suc i) = zeros n i
+-- ---------------------------------------------------------------- clearing
+
+-- of n words the first i are 0
+pub record Clear (n i : ℕ) (l : List ℕ) : Type 0 where
+  pub long : length l ≡ n
+  pub fits : i ≤ n
+  pub zeros : (k : ℕ) → k < i → getD l k 0 ≡ 0
+
+pub clear-none : (l : List ℕ) → Clear (length l) 0 l
+clear-none l = record { long = refl; fits = omega arith; zeros = λ k h. absurd (omega (arith, h)) }
+
+pub clear-more : {n i : ℕ} {l : List ℕ} → Clear n i l → i < length l → Clear n (i + 1) (set l i 0)
+clear-more {n} {i} {l} g h =
+    record {
+      long = length-set l i 0 ∙ g .long;
+      fits = omega (arith, g .long);
+      zeros = below-more (λ (k : ℕ). getD (set l i 0) k 0 ≡ 0) i (λ k u. getD-set-other l i k 0 0 (λ e. omega (arith, u, e)) ∙ g .zeros k u) (getD-set-same l i 0 0 h);
+    }
+
+pub clear-all : {n i : ℕ} {l : List ℕ} → Clear n i l → length l ≤ i → (k : ℕ) → getD l k 0 ≡ 0
+clear-all {n} {i} {l} g h k = by (ltb k i) refl
+  where
+    by : (b : Bool) → ltb k i ≡ b → getD l k 0 ≡ 0
+    by true e = g .zeros k (ltb-true k i e)
+    by false e = let u = ltb-false k i e in List·getD-eq-default l 0 (omega (arith, u, h))
 
 -- ---------------------------------------------------------------- weights
 
@@ -194,18 +217,9 @@ module _ (rows nodes lists : List ℕ) (n : Counts) where
 pub ready-kept : {T : Tables} {l l′ : List ℕ} → length l′ ≡ length l → Ready T l → Ready T l′
 ready-kept e R = record { readable = R .readable; deep = omega (arith, R .deep) }
 
--- cleared arrays for so many records and marks
-module _ (rows nodes lists : List ℕ) (n : Counts) (r : Readable (tables-of rows nodes lists n)) where
-  pub few-storages : n .storages ≤ 256
-  few-storages = omega (arith, r .storage-count, storage-count rows nodes lists n)
-
-  pub few-records : all-weights (tables-of rows nodes lists n) ≤ 2048
-  few-records = r .weight-sum
-
-  pub cleared : (records marks : ℕ) → all-weights (tables-of rows nodes lists n) ≤ records → n .storages ≤ marks
-      → Ready (tables-of rows nodes lists n) (replicate (8 * records) 0) × (n .storages ≤ length {A = ℕ} (replicate marks 0)) × ((i : ℕ) → _≡_ {A = ℕ} (getD (replicate marks 0) i 0) 0)
-  cleared records marks h k =
-      (record { readable = r; deep = omega (arith, length-replicate {A = ℕ} (8 * records) 0) }, omega (arith, length-replicate {A = ℕ} marks 0), zeros marks)
+-- a stack of eight words for each record
+pub ready-lent : {T : Tables} (stack : List ℕ) {w : ℕ} → Readable T → w ≡ all-weights T → (length stack / 8 < w → ⊥) → Ready T stack
+ready-lent stack r e h = record { readable = r; deep = omega (arith, h) }
 
 -- ---------------------------------------------------------------- a run that is done
 
@@ -581,47 +595,60 @@ text-too-long text h = by (leb (length text) 65536) (lt-leb (length text) 65536 
 pub answers-as : {a : spec-answer.Answer} {l l′ : List ℕ} {r r′ : Answer} → r ≡ r′ → Answers a l l′ r → Answers a l l′ r′
 answers-as {a} {l} {l′} e h = subst (λ (z : Answer). Answers a l l′ z) e h
 
--- ---------------------------------------------------------------- rooms
+-- ---------------------------------------------------------------- lent words
 
--- a room lets the next be tried only where there is one, and the buffer is then as it was
-pub record Trial (a : spec-answer.Answer) (room : ℕ) (l l′ : List ℕ) (r : Tried) : Type 0 where
-  pub rows : ℕ
-  pub next : rows < rows-length → room < 2
-  pub tries : Tries a rows l l′ r
-  pub long : length l′ ≡ length l
+-- an answer is a try that had room
+pub tries-answer : {a : spec-answer.Answer} {S M : Type 0} {l l′ : List ℕ} {r : Answer} {t : Tried} → t ≡ tried-of r → (S → ⊥) → Answers a l l′ r → Tries a S M l l′ t
+tries-answer {a} {S} {M} {l} {l′} {r} e s h = rw e (record { shown = by r h })
+  where
+    by : (r : Answer) → Answers a l l′ r → case-tried a S M l l′ (tried-of r)
+    by (Answer.Refused n k) h = (s, h)
+    by (Answer.Accepted n) h = (s, h)
 
-pub trial-of : {a : spec-answer.Answer} {rows room : ℕ} {l l₁ l₂ : List ℕ} {r₁ r₂ : Tried} → (rows < rows-length → room < 2) → Tries a rows l l₁ r₁ → length l₁ ≡ length l → l₂ ≡ l₁ → r₂ ≡ r₁
-    → Trial a room l l₂ r₂
-trial-of {rows = rows} n t k e f = rw (e, f) (record { rows = rows; next = n; tries = t; long = k })
+-- which it was
+module _ {a : spec-answer.Answer} {S M : Type 0} {l l′ : List ℕ} {r : Tried} (t : Tries a S M l l′ r) where
+  as-tried : {r′ : Tried} → r ≡ r′ → case-tried a S M l l′ r′
+  as-tried e = subst (λ (z : Tried). case-tried a S M l l′ z) e (t .shown)
 
-module _ {a : spec-answer.Answer} {room : ℕ} {l l′ : List ℕ} {r : Tried} (t : Trial a room l l′ r) where
-  as-tried : {r′ : Tried} → r ≡ r′ → case-tried a (t .rows) l l′ r′
-  as-tried e = subst (λ (z : Tried). case-tried a (t .rows) l l′ z) e (t .tries .shown)
+  pub tried-refused : {k i : ℕ} → r ≡ Tried.Refused k i → Answers a l l′ (Answer.Refused k i)
+  tried-refused e = as-tried e .1
 
-  pub trial-refused : {k i : ℕ} → r ≡ Tried.Refused k i → Answers a l l′ (Answer.Refused k i)
-  trial-refused e = as-tried e
+  pub tried-accepted : {k : ℕ} → r ≡ Tried.Accepted k → Answers a l l′ (Answer.Accepted k)
+  tried-accepted e = as-tried e .1
 
-  pub trial-accepted : {k : ℕ} → r ≡ Tried.Accepted k → Answers a l l′ (Answer.Accepted k)
-  trial-accepted e = as-tried e
+  pub tried-short : r ≡ Tried.NoRoom → M ⊎ S
+  tried-short e = as-tried e .0
 
-  pub trial-next : r ≡ Tried.NoRoom → room < 2
-  trial-next e = t .next (as-tried e .0)
+-- for the same reason in other words
+tries-case : (a : spec-answer.Answer) {S U M N : Type 0} (l l′ : List ℕ) → (S → U) → (U → S) → (M → N) → (r : Tried) → case-tried a S M l l′ r → case-tried a U N l l′ r
+tries-case a l l′ f g m (Tried.Refused k i) h = ((λ u. h .0 (g u)), h .1)
+tries-case a l l′ f g m (Tried.Accepted k) h = ((λ u. h .0 (g u)), h .1)
+tries-case a l l′ f g m Tried.NoRoom h = (⊎-elim (λ x. inl (m x)) (λ x. inr (f x)) (h .0), h .1)
 
-  pub trial-same : r ≡ Tried.NoRoom → l′ ≡ l
-  trial-same e = as-tried e .1
+pub tries-for : {a : spec-answer.Answer} {S U M N : Type 0} {l l′ : List ℕ} {r : Tried} → (S → U) → (U → S) → (M → N) → Tries a S M l l′ r → Tries a U N l l′ r
+tries-for {a} {l = l} {l′} {r} f g m t = record { shown = tries-case a l l′ f g m r (t .shown) }
 
--- a text that a room is for is one for the next, and for the last
-pub room-next : (room n : ℕ) → room < 2 → n ≤ room-bytes room → n ≤ room-bytes (room + 1)
-room-next zero n h k = omega arith
-room-next (suc zero) n h k = omega arith
-room-next (suc (suc m)) n h k = absurd (omega arith)
+-- of a ticket that is read
+pub tries-read : (T : Tables) (text : List ℕ) {l l′ : List ℕ} (room rows marks stack : ℕ) {r : Tried} → reading.accepted T ≡ read-ticket text
+    → Tries (of-lowering T room (lowered T)) (FewWords T marks stack) ⊥ l l′ r → Tries (answer text room) (FewRead text marks stack) (FewRows rows) l l′ r
+unfolding answer of-reading
+tries-read T text {l} {l′} room rows marks stack {r} e t =
+    let f : FewWords T marks stack → FewRead text marks stack = λ w. record { tables = T; is = sym e; few = w } in
+    let g : FewRead text marks stack → FewWords T marks stack = λ w. few-of w in
+    let m : ⊥ → FewRows rows = λ x. absurd x in
+    let u = tries-for f g m t in
+    subst (λ (z : reading.Read). Tries (of-reading room z) (FewRead text marks stack) (FewRows rows) l l′ r) e u
+  where
+    few-of : FewRead text marks stack → FewWords T marks stack
+    few-of w = let i = w .is in let q : w .tables ≡ T = cc in subst (λ (z : Tables). FewWords z marks stack) q (w .few)
 
-pub room-most : (room : ℕ) → room-bytes room ≤ 65536
-room-most zero = omega arith
-room-most (suc zero) = omega arith
-room-most (suc (suc zero)) = omega arith
-room-most (suc (suc (suc m))) = omega arith
+-- what is not read asks for nothing
+pub unread-few : {text : List ℕ} {marks stack n k : ℕ} → reading.refused n k ≡ read-ticket text → FewRead text marks stack → ⊥
+unread-few e w = let i = w .is in let z : _≡_ {A = ℕ} 0 1 = cc in omega arith
 
--- tried again over the same buffer
-pub answer-again : (text : List ℕ) {l l′ l″ : List ℕ} {r : Answer} → l′ ≡ l → Answers (answer text (length l′)) l′ l″ r → Answers (answer text (length l)) l l″ r
-answer-again text {l″ = l″} {r} e h = subst (λ (z : List ℕ). Answers (answer text (length z)) z l″ r) e h
+-- words that are enough for every ticket are never too few
+pub never-short : (text : List ℕ) (rows lists marks stack : ℕ) → rows-length ≤ rows → 32768 ≤ lists → 256 ≤ marks → 16384 ≤ stack → FewRows rows ⊎ Short text lists marks stack → ⊥
+never-short text rows lists marks stack h i j k s =
+    ⊎-elim (λ w. omega (arith, w))
+    (⊎-elim (λ w. omega (arith, w .0, w .1))
+    (λ w. let r = readable text (w .tables) (w .is) in ⊎-elim (λ x. omega (arith, x, r .storage-count)) (λ x. omega (arith, x, r .weight-sum)) (w .few))) s

@@ -1,11 +1,11 @@
 -- The code's answer as the definitions': an accepted listing is as many bytes as it says, of what the buffer then holds.
-use Prim.Native.Nat.{ℕ, zero, suc, _≤_, _<_}
+use Prim.Native.Nat.{ℕ, _≤_}
 use mathlib.Core.Path.{_≡_}
+use mathlib.Core.Logic.{_⊎_}
 use mathlib.Core.List.{List}
 use lib.ListN.{length, take}
 use Rattle.spec.specs.Answer.{refused, accepted, left-in}
 use Rattle.spec.specs.Answer as spec-answer
-use Rattle.ticket.specs.Rows.{rows-length}
 use Rattle.compiler.specs.declared.Answer.{Answer}
 use Rattle.compiler.specs.declared.Tried.{Tried}
 
@@ -24,18 +24,15 @@ pub record Answers (a : spec-answer.Answer) (buffer buffer′ : List ℕ) (r : A
   pub left : buffer′ ≡ left-in a buffer
   pub within : Within r buffer′
 
--- the same over n words of rows, or these are too few and the buffer is as it was
-abbrev pub case-tried : spec-answer.Answer → ℕ → List ℕ → List ℕ → Tried → Type 0
-case-tried a n buffer buffer′ (Tried.Refused k l) = Answers a buffer buffer′ (Answer.Refused k l)
-case-tried a n buffer buffer′ (Tried.Accepted k) = Answers a buffer buffer′ (Answer.Accepted k)
-case-tried a n buffer buffer′ Tried.NoRoom = (n < rows-length) × (buffer′ ≡ buffer)
+abbrev pub tried-of : Answer → Tried
+tried-of (Answer.Refused n l) = Tried.Refused n l
+tried-of (Answer.Accepted k) = Tried.Accepted k
 
-pub record Tries (a : spec-answer.Answer) (n : ℕ) (buffer buffer′ : List ℕ) (r : Tried) : Type 0 where
-  pub shown : case-tried a n buffer buffer′ r
+-- the same, and S does not hold; or S holds, or M, and the buffer is as it was. So where M does not hold, there is no room exactly if S holds
+abbrev pub case-tried : spec-answer.Answer → Type 0 → Type 0 → List ℕ → List ℕ → Tried → Type 0
+case-tried a S M buffer buffer′ (Tried.Refused k l) = (S → ⊥) × Answers a buffer buffer′ (Answer.Refused k l)
+case-tried a S M buffer buffer′ (Tried.Accepted k) = (S → ⊥) × Answers a buffer buffer′ (Answer.Accepted k)
+case-tried a S M buffer buffer′ Tried.NoRoom = (M ⊎ S) × (buffer′ ≡ buffer)
 
--- the bytes of text that each room is for
-abbrev pub room-bytes : ℕ → ℕ
-room-bytes zero = 320
-room-bytes (suc zero) = 2048
-room-bytes (suc (suc zero)) = 8192
-room-bytes (suc (suc (suc n))) = 65536
+pub record Tries (a : spec-answer.Answer) (S M : Type 0) (buffer buffer′ : List ℕ) (r : Tried) : Type 0 where
+  pub shown : case-tried a S M buffer buffer′ r

@@ -1,11 +1,10 @@
 // The public entry: a ticket's text into the listing of its lowering, in a lent buffer.
 //
-// The ticket is lowered over two arrays of our own, which finds every refusal and where each section of the listing ends. If the buffer is
+// The ticket is lowered over two lent slices, which finds every refusal and where each section of the listing ends. If the buffer is
 // long enough, the listing is copied from them; one that they have no room for is made in the buffer, by lowering again for the storages'
 // section, and once more for the instructions'. So a refusal writes nothing.
 //
-// What is cleared for a ticket fits it: words for its tables by its length, and more where its lines are many; the arrays by the weights and
-// sizes of its nodes' values.
+// The work is done in slices that the caller lends; only the words for keys and a mark for each storage are cleared.
 use emission::Counters;
 use lowering::lower_expression;
 use tables::Counts;
@@ -26,7 +25,8 @@ ghost use Rattle.tables.specs.Tables.{tables-of, node-line, Sized};
 ghost use Rattle.values.specs.Left.{bufs, MeetsValue};
 ghost use Rattle.reads.specs.Reading.{weight-of};
 ghost use Rattle.printing.specs.Marks.{marks-from, narrowed-lines};
-ghost use Rattle.compiler.specs.Shown.{Answers, Tries, room-bytes};
+ghost use Rattle.compiler.specs.Shown.{Answers, Tries, tried-of};
+ghost use Rattle.compiler.specs.Lent.{FewWords, FewRead, FewRows, Short};
 ghost use Rattle.compiler.specs.Sections.{start-of, all-weights, Ready, Printable, end-printed, Ends, Sectioned, Held, Measures, StoragesPut, CodePut, ListingPut};
 
 pub enum Answer {
@@ -34,7 +34,7 @@ pub enum Answer {
     Accepted(usize),
 }
 
-// As Answer, or that the rows lent were too few.
+// As Answer, or that the words lent were too few.
 pub enum Tried {
     Refused(u64, u64),
     Accepted(usize),
@@ -300,243 +300,161 @@ fn weights(rows: &[u64], nodes: &[u64], lists: &[u64], counts: Counts) -> u64
     sum
 }
 
-// A stack of 32 records, room for a short listing, and marks for as many storages: the least that is cleared.
-fn lower_flat(
-    rows: &[u64],
-    nodes: &[u64],
-    lists: &[u64],
-    counts: Counts,
-    buffer: &mut [u8],
-) -> Answer
-    requires { ⌜ (Readable (tables-of (now rows) (now nodes) (now lists) counts)) × (all-weights (tables-of (now rows) (now nodes) (now lists) counts) ≤ 32) × (counts .storages ≤ 32) ⌝ }
-    ensures { λ r. ⌜ Answers (of-lowering (tables-of (now (rows .entry)) (now (nodes .entry)) (now (lists .entry)) counts) (length (now (buffer .entry))) (lowered (tables-of (now (rows .entry)) (now (nodes .entry)) (now (lists .entry)) counts))) (now (buffer .entry)) (now (buffer .exit)) r ⌝ }
-{
-    let mut code = [0u8; 2048];
-    let mut store = [0u8; 1024];
-    let mut narrowed = [0u64; 32];
-    let mut stack = [0u64; 256];
-    lower_tables(rows, nodes, lists, counts, &mut code, &mut store, &mut narrowed, &mut stack, buffer)
-}
+// ---------------------------------------------------------------- lent words
 
-// A stack of 128 records, marks for as many storages as any ticket has, and room for a longer listing.
-fn lower_shallow(
-    rows: &[u64],
-    nodes: &[u64],
-    lists: &[u64],
-    counts: Counts,
-    buffer: &mut [u8],
-) -> Answer
-    requires { ⌜ (Readable (tables-of (now rows) (now nodes) (now lists) counts)) × (all-weights (tables-of (now rows) (now nodes) (now lists) counts) ≤ 128) ⌝ }
-    ensures { λ r. ⌜ Answers (of-lowering (tables-of (now (rows .entry)) (now (nodes .entry)) (now (lists .entry)) counts) (length (now (buffer .entry))) (lowered (tables-of (now (rows .entry)) (now (nodes .entry)) (now (lists .entry)) counts))) (now (buffer .entry)) (now (buffer .exit)) r ⌝ }
+// Every word 0.
+fn clear(words: &mut [u64])
+    ensures { λ _. ⌜ ((i : ℕ) → getD (now (words .exit)) i 0 ≡ 0) ⌝ }
 {
-    let mut code = [0u8; 8192];
-    let mut store = [0u8; 4096];
-    let mut narrowed = [0u64; 256];
-    let mut stack = [0u64; 1024];
-    lower_tables(rows, nodes, lists, counts, &mut code, &mut store, &mut narrowed, &mut stack, buffer)
-}
-
-// The same stack, and room for the listing of long values.
-fn lower_wide(
-    rows: &[u64],
-    nodes: &[u64],
-    lists: &[u64],
-    counts: Counts,
-    buffer: &mut [u8],
-) -> Answer
-    requires { ⌜ (Readable (tables-of (now rows) (now nodes) (now lists) counts)) × (all-weights (tables-of (now rows) (now nodes) (now lists) counts) ≤ 128) ⌝ }
-    ensures { λ r. ⌜ Answers (of-lowering (tables-of (now (rows .entry)) (now (nodes .entry)) (now (lists .entry)) counts) (length (now (buffer .entry))) (lowered (tables-of (now (rows .entry)) (now (nodes .entry)) (now (lists .entry)) counts))) (now (buffer .entry)) (now (buffer .exit)) r ⌝ }
-{
-    let mut code = [0u8; 40960];
-    let mut store = [0u8; 4096];
-    let mut narrowed = [0u64; 256];
-    let mut stack = [0u64; 1024];
-    lower_tables(rows, nodes, lists, counts, &mut code, &mut store, &mut narrowed, &mut stack, buffer)
-}
-
-// A stack of 512 records.
-fn lower_middle(
-    rows: &[u64],
-    nodes: &[u64],
-    lists: &[u64],
-    counts: Counts,
-    buffer: &mut [u8],
-) -> Answer
-    requires { ⌜ (Readable (tables-of (now rows) (now nodes) (now lists) counts)) × (all-weights (tables-of (now rows) (now nodes) (now lists) counts) ≤ 512) ⌝ }
-    ensures { λ r. ⌜ Answers (of-lowering (tables-of (now (rows .entry)) (now (nodes .entry)) (now (lists .entry)) counts) (length (now (buffer .entry))) (lowered (tables-of (now (rows .entry)) (now (nodes .entry)) (now (lists .entry)) counts))) (now (buffer .entry)) (now (buffer .exit)) r ⌝ }
-{
-    let mut code = [0u8; 12288];
-    let mut store = [0u8; 8192];
-    let mut narrowed = [0u64; 256];
-    let mut stack = [0u64; 4096];
-    lower_tables(rows, nodes, lists, counts, &mut code, &mut store, &mut narrowed, &mut stack, buffer)
-}
-
-// A stack for as many as any ticket has, and room for a long listing.
-fn lower_deep(
-    rows: &[u64],
-    nodes: &[u64],
-    lists: &[u64],
-    counts: Counts,
-    buffer: &mut [u8],
-) -> Answer
-    requires { ⌜ Readable (tables-of (now rows) (now nodes) (now lists) counts) ⌝ }
-    ensures { λ r. ⌜ Answers (of-lowering (tables-of (now (rows .entry)) (now (nodes .entry)) (now (lists .entry)) counts) (length (now (buffer .entry))) (lowered (tables-of (now (rows .entry)) (now (nodes .entry)) (now (lists .entry)) counts))) (now (buffer .entry)) (now (buffer .exit)) r ⌝ }
-{
-    let mut code = [0u8; 65536];
-    let mut store = [0u8; 32768];
-    let mut narrowed = [0u64; 256];
-    let mut stack = [0u64; 16384];
-    lower_tables(rows, nodes, lists, counts, &mut code, &mut store, &mut narrowed, &mut stack, buffer)
-}
-
-// The nodes' sizes say how long the listing is likely to be.
-fn lower_larger(
-    rows: &[u64],
-    nodes: &[u64],
-    lists: &[u64],
-    counts: Counts,
-    w: u64,
-    buffer: &mut [u8],
-) -> Answer
-    requires { ⌜ (Readable (tables-of (now rows) (now nodes) (now lists) counts)) × (w ≡ all-weights (tables-of (now rows) (now nodes) (now lists) counts)) ⌝ }
-    ensures { λ r. ⌜ Answers (of-lowering (tables-of (now (rows .entry)) (now (nodes .entry)) (now (lists .entry)) counts) (length (now (buffer .entry))) (lowered (tables-of (now (rows .entry)) (now (nodes .entry)) (now (lists .entry)) counts))) (now (buffer .entry)) (now (buffer .exit)) r ⌝ }
-{
-    if w <= 128 && counts.sizes <= 256 {
-        return lower_shallow(rows, nodes, lists, counts, buffer);
+    let mut i: usize = 0;
+    while i < words.len() {
+        words[i] = 0;
+        i += 1;
     }
-    if w <= 128 {
-        return lower_wide(rows, nodes, lists, counts, buffer);
-    }
-    if w <= 512 && counts.sizes <= 768 {
-        return lower_middle(rows, nodes, lists, counts, buffer);
-    }
-    lower_deep(rows, nodes, lists, counts, buffer)
 }
 
+// The words for keys, behind the rows: what stands in them makes reading slow, and not wrong.
+fn clear_keys(rows: &mut [u64]) {
+    let at = rows.len() / 40 * 36;
+    clear(&mut rows[at..]);
+}
+
+fn as_tried(answer: Answer) -> Tried
+    ensures { λ r. ⌜ r ≡ tried-of answer ⌝ }
+{
+    match answer {
+        Answer::Refused(n, l) => Tried::Refused(n, l),
+        Answer::Accepted(k) => Tried::Accepted(k),
+    }
+}
+
+// What was read, over marks that are cleared first.
+fn lower_marked(
+    rows: &[u64],
+    nodes: &[u64],
+    lists: &[u64],
+    counts: Counts,
+    code: &mut [u8],
+    store: &mut [u8],
+    narrowed: &mut [u64],
+    stack: &mut [u64],
+    buffer: &mut [u8],
+) -> Answer
+    requires { ⌜ (Ready (tables-of (now rows) (now nodes) (now lists) counts) (now stack)) × (counts .storages ≤ length (now narrowed)) ⌝ }
+    ensures { λ r. ⌜ Answers (of-lowering (tables-of (now (rows .entry)) (now (nodes .entry)) (now (lists .entry)) counts) (length (now (buffer .entry))) (lowered (tables-of (now (rows .entry)) (now (nodes .entry)) (now (lists .entry)) counts))) (now (buffer .entry)) (now (buffer .exit)) r ⌝ }
+{
+    clear(narrowed);
+    lower_tables(rows, nodes, lists, counts, code, store, narrowed, stack, buffer)
+}
+
+// A mark for each storage, and eight words for each record.
 fn lower_counted(
     rows: &[u64],
     nodes: &[u64],
     lists: &[u64],
     counts: Counts,
+    code: &mut [u8],
+    store: &mut [u8],
+    narrowed: &mut [u64],
+    stack: &mut [u64],
     buffer: &mut [u8],
-) -> Answer
+) -> Tried
     requires { ⌜ Readable (tables-of (now rows) (now nodes) (now lists) counts) ⌝ }
-    ensures { λ r. ⌜ Answers (of-lowering (tables-of (now (rows .entry)) (now (nodes .entry)) (now (lists .entry)) counts) (length (now (buffer .entry))) (lowered (tables-of (now (rows .entry)) (now (nodes .entry)) (now (lists .entry)) counts))) (now (buffer .entry)) (now (buffer .exit)) r ⌝ }
+    ensures { λ r. ⌜ Tries (of-lowering (tables-of (now (rows .entry)) (now (nodes .entry)) (now (lists .entry)) counts) (length (now (buffer .entry))) (lowered (tables-of (now (rows .entry)) (now (nodes .entry)) (now (lists .entry)) counts))) (FewWords (tables-of (now (rows .entry)) (now (nodes .entry)) (now (lists .entry)) counts) (length (now (narrowed .entry))) (length (now (stack .entry)))) ⊥ (now (buffer .entry)) (now (buffer .exit)) r ⌝ }
 {
-    let w = weights(rows, nodes, lists, counts);
-    if 32 < counts.storages {
-        return lower_larger(rows, nodes, lists, counts, w, buffer);
+    let marks = counts.storages as usize;
+    if narrowed.len() < marks {
+        return Tried::NoRoom;
     }
-    if w <= 32 && counts.sizes <= 64 {
-        return lower_flat(rows, nodes, lists, counts, buffer);
+    if (stack.len() as u64) / 8 < weights(rows, nodes, lists, counts) {
+        return Tried::NoRoom;
     }
-    lower_larger(rows, nodes, lists, counts, w, buffer)
+    as_tried(lower_marked(rows, nodes, lists, counts, code, store, &mut narrowed[..marks], stack, buffer))
 }
 
 // The nodes' rows begin behind one of each other kind.
-fn lower_rows(rows: &[u64], lists: &[u64], counts: Counts, buffer: &mut [u8]) -> Answer
+fn lower_rows(
+    rows: &[u64],
+    lists: &[u64],
+    counts: Counts,
+    code: &mut [u8],
+    store: &mut [u8],
+    narrowed: &mut [u64],
+    stack: &mut [u64],
+    buffer: &mut [u8],
+) -> Tried
     requires { ⌜ (30 ≤ length (now rows)) × (Readable (tables-of (now rows) (drop 30 (now rows)) (now lists) counts)) ⌝ }
-    ensures { λ r. ⌜ Answers (of-lowering (tables-of (now (rows .entry)) (drop 30 (now (rows .entry))) (now (lists .entry)) counts) (length (now (buffer .entry))) (lowered (tables-of (now (rows .entry)) (drop 30 (now (rows .entry))) (now (lists .entry)) counts))) (now (buffer .entry)) (now (buffer .exit)) r ⌝ }
+    ensures { λ r. ⌜ Tries (of-lowering (tables-of (now (rows .entry)) (drop 30 (now (rows .entry))) (now (lists .entry)) counts) (length (now (buffer .entry))) (lowered (tables-of (now (rows .entry)) (drop 30 (now (rows .entry))) (now (lists .entry)) counts))) (FewWords (tables-of (now (rows .entry)) (drop 30 (now (rows .entry))) (now (lists .entry)) counts) (length (now (narrowed .entry))) (length (now (stack .entry)))) ⊥ (now (buffer .entry)) (now (buffer .exit)) r ⌝ }
 {
     let nodes = &rows[30..];
-    lower_counted(rows, nodes, lists, counts, buffer)
+    lower_counted(rows, nodes, lists, counts, code, store, narrowed, stack, buffer)
 }
 
-// The same of a text, over words lent for its tables.
-fn lower_with(ticket: &[u8], rows: &mut [u64], lists: &mut [u64], buffer: &mut [u8]) -> Tried
-    requires { ⌜ (30 ≤ length (now rows)) × (length (now ticket) ≤ length (now lists) * 2) ⌝ }
-    ensures { λ r. ⌜ Tries (answer (now (ticket .entry)) (length (now (buffer .entry)))) (length (now (rows .entry))) (now (buffer .entry)) (now (buffer .exit)) r ⌝ }
+// The same of a text that the lists are long enough for.
+fn lower_with(
+    ticket: &[u8],
+    buffer: &mut [u8],
+    rows: &mut [u64],
+    lists: &mut [u64],
+    stack: &mut [u64],
+    narrowed: &mut [u64],
+    code: &mut [u8],
+    store: &mut [u8],
+) -> Tried
+    requires { ⌜ (40 ≤ length (now rows)) × (length (now ticket) ≤ length (now lists) * 2) ⌝ }
+    ensures { λ r. ⌜ Tries (answer (now (ticket .entry)) (length (now (buffer .entry)))) (FewRead (now (ticket .entry)) (length (now (narrowed .entry))) (length (now (stack .entry)))) (FewRows (length (now (rows .entry)))) (now (buffer .entry)) (now (buffer .exit)) r ⌝ }
 {
     match read_ticket(ticket, rows, lists) {
         ReadAnswer::Refused(n, l) => Tried::Refused(n, l),
-        ReadAnswer::Accepted(counts) => match lower_rows(rows, lists, counts, buffer) {
-            Answer::Refused(n, l) => Tried::Refused(n, l),
-            Answer::Accepted(n) => Tried::Accepted(n),
-        },
+        ReadAnswer::Accepted(counts) => lower_rows(rows, lists, counts, code, store, narrowed, stack, buffer),
         ReadAnswer::NoRoom => Tried::NoRoom,
     }
 }
 
-// Words for 32 lines of each kind, which are soon cleared.
-fn lower_tiny(ticket: &[u8], buffer: &mut [u8]) -> Tried
-    requires { ⌜ length (now ticket) ≤ 320 ⌝ }
-    ensures { λ r. ⌜ Tries (answer (now (ticket .entry)) (length (now (buffer .entry)))) 1280 (now (buffer .entry)) (now (buffer .exit)) r ⌝ }
+// The listing of the ticket's lowering, in the buffer, and its length; or the refusal's number and line, and nothing is written; or that
+// words lent are too few, and nothing is written. All the work is done in what is lent, and whatever stood there is of no account: a word of
+// `lists` for two bytes of text; 8 of `stack` for each record of the nodes' values, and one of `narrowed` for each storage of a ticket that
+// reading accepts; where `rows` has 10,280, these are too few exactly then. With fewer they can be too few too: there are 40 for each line of
+// the kind that has the most, and 40 more. 16,384 words of stack and 256 of narrowed are enough for every ticket.
+// `code` and `store` may have any length: where they hold the listing's halves, the ticket is lowered once, else three times.
+pub fn lower_in(
+    ticket: &[u8],
+    buffer: &mut [u8],
+    rows: &mut [u64],
+    lists: &mut [u64],
+    stack: &mut [u64],
+    narrowed: &mut [u64],
+    code: &mut [u8],
+    store: &mut [u8],
+) -> Tried
+    ensures { λ r. ⌜ Tries (answer (now (ticket .entry)) (length (now (buffer .entry)))) (Short (now (ticket .entry)) (length (now (lists .entry))) (length (now (narrowed .entry))) (length (now (stack .entry)))) (FewRows (length (now (rows .entry)))) (now (buffer .entry)) (now (buffer .exit)) r ⌝ }
 {
-    let mut rows = [0u64; 1280];
-    let mut lists = [0u64; 160];
-    lower_with(ticket, &mut rows, &mut lists, buffer)
-}
-
-// Words for 128 of each.
-fn lower_short(ticket: &[u8], buffer: &mut [u8]) -> Tried
-    requires { ⌜ length (now ticket) ≤ 2048 ⌝ }
-    ensures { λ r. ⌜ Tries (answer (now (ticket .entry)) (length (now (buffer .entry)))) 5120 (now (buffer .entry)) (now (buffer .exit)) r ⌝ }
-{
-    let mut rows = [0u64; 5120];
-    let mut lists = [0u64; 1024];
-    lower_with(ticket, &mut rows, &mut lists, buffer)
-}
-
-// Words for as many as any ticket has.
-fn lower_page(ticket: &[u8], buffer: &mut [u8]) -> Tried
-    requires { ⌜ length (now ticket) ≤ 8192 ⌝ }
-    ensures { λ r. ⌜ Tries (answer (now (ticket .entry)) (length (now (buffer .entry)))) 10280 (now (buffer .entry)) (now (buffer .exit)) r ⌝ }
-{
-    let mut rows = [0u64; 10280];
-    let mut lists = [0u64; 4096];
-    lower_with(ticket, &mut rows, &mut lists, buffer)
-}
-
-fn lower_long(ticket: &[u8], buffer: &mut [u8]) -> Tried
-    requires { ⌜ length (now ticket) ≤ 65536 ⌝ }
-    ensures { λ r. ⌜ Tries (answer (now (ticket .entry)) (length (now (buffer .entry)))) 10280 (now (buffer .entry)) (now (buffer .exit)) r ⌝ }
-{
-    let mut rows = [0u64; 10280];
-    let mut lists = [0u64; 32768];
-    lower_with(ticket, &mut rows, &mut lists, buffer)
-}
-
-// In the room of that number, or the first behind it whose rows are enough. That it calls itself keeps the rooms' arrays out of its frame.
-fn lower_within(ticket: &[u8], buffer: &mut [u8], room: u64) -> Answer
-    requires { ⌜ length (now ticket) ≤ room-bytes room ⌝ }
-    ensures { λ r. ⌜ Answers (answer (now (ticket .entry)) (length (now (buffer .entry)))) (now (buffer .entry)) (now (buffer .exit)) r ⌝ }
-{
-    let tried = match room {
-        0 => lower_tiny(ticket, buffer),
-        1 => lower_short(ticket, buffer),
-        2 => lower_page(ticket, buffer),
-        _ => lower_long(ticket, buffer),
-    };
-    match tried {
-        Tried::Refused(n, l) => Answer::Refused(n, l),
-        Tried::Accepted(n) => Answer::Accepted(n),
-        Tried::NoRoom => lower_within(ticket, buffer, room + 1),
+    if 65536 < ticket.len() {
+        return Tried::Refused(1, 0);
     }
-}
-
-// The least room that a text of n bytes is read in.
-fn room_for(n: usize) -> u64
-    requires { ⌜ n ≤ 65536 ⌝ }
-    ensures { λ r. ⌜ n ≤ room-bytes r ⌝ }
-{
-    if n <= 320 {
-        0
-    } else if n <= 2048 {
-        1
-    } else if n <= 8192 {
-        2
-    } else {
-        3
+    if lists.len() < ticket.len() - ticket.len() / 2 {
+        return Tried::NoRoom;
     }
+    if rows.len() < 40 {
+        return Tried::NoRoom;
+    }
+    clear_keys(rows);
+    lower_with(ticket, buffer, rows, lists, stack, narrowed, code, store)
 }
 
-// The listing of the ticket's lowering, in the buffer, and its length; or the refusal's number and line, and nothing is written.
+// The same in arrays of its own, which are enough for every ticket.
 pub fn lower(ticket: &[u8], buffer: &mut [u8]) -> Answer
     ensures { λ r. ⌜ Answers (answer (now (ticket .entry)) (length (now (buffer .entry)))) (now (buffer .entry)) (now (buffer .exit)) r ⌝ }
 {
-    if 65536 < ticket.len() {
-        return Answer::Refused(1, 0);
+    let mut rows = [0u64; 10280];
+    let mut lists = [0u64; 32768];
+    let mut stack = [0u64; 16384];
+    let mut narrowed = [0u64; 256];
+    let mut code = [0u8; 16384];
+    let mut store = [0u8; 8192];
+    match lower_in(ticket, buffer, &mut rows, &mut lists, &mut stack, &mut narrowed, &mut code, &mut store) {
+        Tried::Refused(n, l) => Answer::Refused(n, l),
+        Tried::Accepted(k) => Answer::Accepted(k),
+        Tried::NoRoom => Answer::Refused(0, 0),
     }
-    lower_within(ticket, buffer, room_for(ticket.len()))
 }

@@ -121,6 +121,49 @@ pub fn lower(ticket: &[u8], buffer: &mut [u8]) -> Result<usize, Refusal> {
     sys::lower(ticket, buffer).map_err(|(number, line)| Refusal { number, line })
 }
 
+/// Room to work in, lent to [`lower_in`] and used again from ticket to ticket.
+/// What it holds is of no account.
+pub struct Room {
+    pub rows: Box<[u64]>,
+    pub lists: Box<[u64]>,
+    pub stack: Box<[u64]>,
+    pub narrowed: Box<[u64]>,
+    pub code: Box<[u8]>,
+    pub store: Box<[u8]>,
+}
+
+impl Room {
+    /// Room for every ticket.
+    pub fn new() -> Self {
+        Self {
+            rows: vec![0; 10_280].into(),
+            lists: vec![0; 32_768].into(),
+            stack: vec![0; 16_384].into(),
+            narrowed: vec![0; 256].into(),
+            code: vec![0; 65_536].into(),
+            store: vec![0; 32_768].into(),
+        }
+    }
+}
+
+impl Default for Room {
+    fn default() -> Self {
+        Self::new()
+    }
+}
+
+/// [`lower`] in lent room, without large arrays on the stack. The answer is
+/// `None`, and the buffer as it was, where the room is too small for the
+/// ticket; that of [`Room::new`] never is.
+pub fn lower_in(
+    ticket: &[u8],
+    buffer: &mut [u8],
+    room: &mut Room,
+) -> Option<Result<usize, Refusal>> {
+    let answer = sys::lower_in(ticket, buffer, room)?;
+    Some(answer.map_err(|(number, line)| Refusal { number, line }))
+}
+
 /// Lowers a ticket to a listing of any length.
 ///
 /// ```

@@ -1,24 +1,80 @@
--- A text that is too long is refused unread. Assumes nothing.
+-- Its own arrays are enough for every ticket. Assumes nothing.
 use borrow.Author.Needs.{needs}
-use Rattle.compiler.proofs.Laws.{answer-unread, text-too-long}
+use Prim.Native.Nat.{ℕ}
+use native.Mathlib.Omega.{arith}
+use lib.ListN.{length, replicate, length-replicate}
+use Rattle.compiler.proofs.Laws.{tried-refused, tried-accepted, tried-short, never-short}
 use Rattle.compiler.proofs.lower.Statement.{statement}
 use Rattle.compiler.proofs.lower.Tie as tie
+use Rattle.compiler.proofs.lower.Reads as reads
+use Rattle.compiler.proofs.lower.Lts as lts
+use Rattle.compiler.proofs.lower_in.Reads as lower-in-reads
 
-returns : tie.Need-returns
-returns c = answer-unread (c .before .before .before .args .ticket .now) _ _ 1 0 (text-too-long (c .before .before .before .args .ticket .now) (c .if1 .taken))
+slice-aggregate-lower-in : tie.Need-slice-aggregate-lower-in
+slice-aggregate-lower-in c = search needs
 
-room-for-requires : tie.Need-room-for-requires
-room-for-requires c κs = search needs
+slice-aggregate-lower-in-2 : tie.Need-slice-aggregate-lower-in-2
+slice-aggregate-lower-in-2 c = search needs
 
-lower-within-requires : tie.Need-lower-within-requires
-lower-within-requires c κs = search needs
+slice-aggregate-lower-in-3 : tie.Need-slice-aggregate-lower-in-3
+slice-aggregate-lower-in-3 c = search needs
+
+slice-aggregate-lower-in-4 : tie.Need-slice-aggregate-lower-in-4
+slice-aggregate-lower-in-4 c = search needs
+
+slice-aggregate-lower-in-5 : tie.Need-slice-aggregate-lower-in-5
+slice-aggregate-lower-in-5 c = search needs
+
+slice-aggregate-lower-in-6 : tie.Need-slice-aggregate-lower-in-6
+slice-aggregate-lower-in-6 c = search needs
+
+lower-in-requires : tie.Need-lower-in-requires
+lower-in-requires c κs = search needs
+
+enum-known-n : tie.Need-enum-known-n
+enum-known-n c = search needs
+
+enum-known-k : tie.Need-enum-known-k
+enum-known-k c = search needs
+
+enum-told : tie.Need-enum-told
+enum-told c = search needs
 
 same-length : tie.Need-same-length
 same-length c = search needs
 
+returns : tie.Need-returns
+returns c = tried-refused (c .before .before .before .before .before .before .before .before .before .before .before .lower-in .ensures) (c .before .n .given .1)
+
+same-length-2 : tie.Need-same-length-2
+same-length-2 c = search needs
+
 returns-2 : tie.Need-returns-2
-returns-2 c = search needs
+returns-2 c = tried-accepted (c .before .before .before .before .before .before .before .before .before .before .before .lower-in .ensures) (c .before .k .given .1)
+
+same-length-3 : tie.Need-same-length-3
+same-length-3 c = search needs
+
+returns-3 : tie.Need-returns-3
+returns-3 c = absurd (never-short (c .before .before .before .before .before .before .before .before .before .before .before .before .before .before .before .before .before .before .before .before .args .ticket .now) (length {A = ℕ} (replicate 10280 0)) (length {A = ℕ} (replicate 32768 0)) (length {A = ℕ} (replicate 256 0)) (length {A = ℕ} (replicate 16384 0)) (omega (arith, length-replicate {A = ℕ} 10280 0)) (omega (arith, length-replicate {A = ℕ} 32768 0)) (omega (arith, length-replicate {A = ℕ} 256 0)) (omega (arith, length-replicate {A = ℕ} 16384 0)) (tried-short (c .before .before .before .before .before .before .before .before .before .before .lower-in .ensures) (c .enum-told .given .1)))
 
 pub lower-spec : {M : Type 1} → statement M
 lower-spec =
-    tie.close (tie.spec returns room-for-requires lower-within-requires same-length returns-2)
+    tie.close
+    (tie.spec
+    slice-aggregate-lower-in
+    slice-aggregate-lower-in-2
+    slice-aggregate-lower-in-3
+    slice-aggregate-lower-in-4
+    slice-aggregate-lower-in-5
+    slice-aggregate-lower-in-6
+    lower-in-requires
+    enum-known-n
+    enum-known-k
+    enum-told
+    same-length
+    returns
+    same-length-2
+    returns-2
+    same-length-3
+    returns-3)
