@@ -1,4 +1,4 @@
--- What the two lengths decide of the answer. Assumes nothing.
+-- What the two lengths decide of the answer.
 use Prim.Native.Nat.{ℕ, _%_, _≤_}
 use mathlib.Core.Path.{_≡_}
 use mathlib.Core.List.{List}

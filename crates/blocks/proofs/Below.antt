@@ -1,4 +1,4 @@
--- One computed test of every number below a bound gives its rule at each. Assumes nothing.
+-- One computed test of every number below a bound gives its rule at each.
 use Prim.Native.Nat.{ℕ, zero, suc, _<_}
 use mathlib.Core.Path.{_≡_, sym, subst}
 use mathlib.Core.Bool.{Bool, true, _&&_}

@@ -1,4 +1,4 @@
--- Bits of words: of `^`, `&`, shifts and remainders. Assumes nothing.
+-- Bits of words: of `^`, `&`, shifts and remainders.
 use Prim.Native.Nat.{ℕ, zero, suc, _+_, _-_, _*_, _/_, _%_, _^_, _<_, min}
 use mathlib.Core.Path.{_≡_, refl, sym, ap, _∙_}
 use native.Mathlib.Omega.{arith}

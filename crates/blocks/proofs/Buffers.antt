@@ -1,5 +1,5 @@
 -- What the functions leave in their outputs: the first bytes of an output, given back as input, restore the bytes. The premises are
--- contracts of two calls. Assumes nothing.
+-- contracts of two calls.
 use Prim.Native.Nat.{ℕ, _%_, _≤_}
 use mathlib.Core.Path.{_≡_, refl, sym, ap, _∙_}
 use mathlib.Core.Bool.{Bool, true, false}

@@ -1,4 +1,4 @@
--- One square more, in each of the two directions. Assumes nothing.
+-- One square more, in each of the two directions.
 use Prim.Native.Nat.{ℕ, _+_, _*_, _/_, _%_, _<_}
 use mathlib.Core.Path.{_≡_, sym, ap₂, _∙_}
 use mathlib.Core.List.{List}

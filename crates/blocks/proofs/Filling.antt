@@ -1,4 +1,4 @@
--- An output filled byte by byte from its start on. Assumes nothing.
+-- An output filled byte by byte from its start on.
 use Prim.Native.Nat.{ℕ, _+_, _≤_, _<_}
 use mathlib.Core.Path.{_≡_, refl, _∙_}
 use mathlib.Core.List.{List, _++_}

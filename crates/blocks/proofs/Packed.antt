@@ -1,4 +1,4 @@
--- Numbers by their bits: what is packed has those bits, and a number below 2 ^ n is its n bits packed. Assumes nothing.
+-- Numbers by their bits: what is packed has those bits, and a number below 2 ^ n is its n bits packed.
 use Prim.Native.Nat.{ℕ, zero, suc, _+_, _*_, _/_, _%_, _^_, _≤_, _<_}
 use mathlib.Core.Path.{_≡_, refl, sym, ap, ap₂, _∙_}
 use native.Mathlib.Omega.{arith}

@@ -1,5 +1,4 @@
 -- A word transposed as a square of bits: where each exchange takes a bit from, one computed test of all 64, and the bytes that follow.
--- Assumes nothing.
 use Prim.Native.Nat.{ℕ, zero, suc, _+_, _-_, _*_, _/_, _%_, _^_, _≤_, _<_, min}
 use mathlib.Core.Path.{_≡_, refl, sym, ap, _∙_}
 use mathlib.Core.Bool.{Bool, true, false, _&&_}

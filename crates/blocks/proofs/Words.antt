@@ -1,4 +1,4 @@
--- Words read from bytes one step apart, the highest first, and written to such bytes. Assumes nothing.
+-- Words read from bytes one step apart, the highest first, and written to such bytes.
 use Prim.Native.Nat.{ℕ, suc, _+_, _-_, _*_, _/_, _%_, _^_, _≤_, _<_}
 use mathlib.Core.Path.{_≡_, refl, ap₂, _∙_}
 use mathlib.Core.List.{List}

@@ -1,5 +1,5 @@
 -- What the runs of the lowering leave, where the listing's sections end, and the listing as its sections one after the other.
-use Prim.Native.Nat.{ℕ, zero, suc, _+_, _-_, _*_, _/_, _≤_, _<_}
+use Prim.Native.Nat.{ℕ, suc, _+_, _-_, _/_, _≤_, _<_}
 use mathlib.Core.Path.{_≡_, refl, sym, ap, subst, _∙_}
 use mathlib.Core.Bool.{Bool, true, false}
 use mathlib.Core.Logic.{_⊎_, inl, inr, ⊎-elim}
@@ -32,7 +32,7 @@ use Rattle.tables.specs.declared.Counts.{Counts}
 use Rattle.tables.specs.Tables.{tab, tables-of, storage-line, node-line, node-type-at, weight-at}
 use Rattle.tables.proofs.Laws.{length-tab, weight-here}
 use Rattle.ticket.specs.declared.ReadAnswer.{ReadAnswer}
-use Rattle.ticket.specs.Rows.{rows-length}
+use Rattle.line_checks.specs.Rows.{rows-length}
 use Rattle.ticket.specs.Answers.{AnswerIs, Answered}
 use Rattle.values.specs.declared.State.{State}
 use Rattle.values.specs.declared.Value.{Value as Val}
@@ -51,30 +51,7 @@ use Rattle.compiler.specs.declared.Measured.{Measured}
 use Rattle.compiler.specs.Shown.{Answers, tried-of, case-tried, Tries}
 use Rattle.compiler.specs.Lent.{FewWords, FewRead, FewRows, Short}
 use Rattle.lowering.specs.Rooms.{TreeRoom}
-use Rattle.compiler.specs.Sections.{
-  start-of,
-  all-weights,
-  Ready,
-  storages-text,
-  narrowed-text,
-  code-text,
-  end-text,
-  front-text,
-  back-text,
-  print-of,
-  end-printed,
-  Printable,
-  Spans,
-  Ends,
-  Sectioned,
-  Held,
-  case-measured,
-  Measures,
-  StoragesPut,
-  case-end,
-  CodePut,
-  ListingPut,
-}
+use Rattle.compiler.specs.Sections.{start-of, all-weights, Ready, storages-text, narrowed-text, code-text, end-text, front-text, back-text, print-of, end-printed, Printable, Spans, Ends, Sectioned, Held, case-measured, Measures, StoragesPut, case-end, CodePut, ListingPut}
 
 -- ---------------------------------------------------------------- tables
 

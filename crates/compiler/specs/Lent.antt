@@ -6,7 +6,7 @@ use mathlib.Core.List.{List}
 use lib.ListN.{length}
 use Rattle.spec.specs.Ticket.{Tables}
 use Rattle.spec.specs.Read.{read-ticket, accepted}
-use Rattle.ticket.specs.Rows.{rows-length}
+use Rattle.line_checks.specs.Rows.{rows-length}
 use Rattle.compiler.specs.Sections.{all-weights}
 
 -- fewer marks than storages, or fewer than eight words of stack for each record of the nodes' values

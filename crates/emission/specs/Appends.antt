@@ -1,6 +1,6 @@
 -- What a step appends: storages and instructions, as texts behind those that stand there, with the counters advanced.
 use mathlib.Core.Path.{_≡_, refl}
-use mathlib.Core.List.{List, [], _∷_, _++_, map, append-assoc, append-nil}
+use mathlib.Core.List.{List, _∷_, _++_, append-assoc, append-nil}
 use Prim.Native.Nat.{ℕ, _+_, _≤_}
 use native.Mathlib.Omega.{arith}
 use lib.ListN.{length, length-append}
@@ -8,7 +8,7 @@ use Rattle.spec.specs.Hir.{At}
 use Rattle.spec.specs.Lir.{Instruction, InstructionKind, Storage}
 use Rattle.spec.specs.Print.{each, instruction-line, storage-line}
 use Rattle.spec.specs.Monad as monad
-use Rattle.spec.specs.Monad.{made, made-all}
+use Rattle.spec.specs.Monad.{made-all}
 use Rattle.text.specs.Put.{Put, then, none, last}
 use Rattle.emission.specs.declared.Counters.{Counters}
 
@@ -91,10 +91,6 @@ pub room-after : {n : ℕ} (m : ℕ) {t t1 : Texts} {c c1 : Counters} {ss : List
 room-after m h k r a = record { instructions = omega arith; storage = omega arith; temporary = omega arith }
 
 -- ---------------------------------------------------------------- instructions made of kinds
-
-pub made-map : (h : At) (ks : List InstructionKind) → made-all h ks ≡ map (made h) ks
-made-map h [] = refl
-made-map h (k ∷ ks) = rw (made-map h ks)
 
 pub made-append : (h : At) (ks ls : List InstructionKind) → made-all h (ks ++ ls) ≡ made-all h ks ++ made-all h ls
 made-append h [] ls = refl

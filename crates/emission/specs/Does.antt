@@ -1,18 +1,18 @@
 -- What a step of the code has done: the definition's answer, and all that it appends.
-use mathlib.Core.Path.{_≡_, refl}
-use mathlib.Core.List.{List, [], _∷_, _++_}
+use mathlib.Core.Path.{_≡_}
+use mathlib.Core.List.{List, _∷_, _++_}
 use Prim.Native.Nat.{ℕ, _+_, _≤_}
 use native.Mathlib.Omega.{arith}
 use lib.ListN.{length, length-append}
 use Rattle.spec.specs.Hir.{At}
 use Rattle.spec.specs.Lir.{InstructionKind, Storage}
-use Rattle.spec.specs.Monad.{Lower, done, refused, Out, _>>=_, _>>_, pure, emits, made-all}
+use Rattle.spec.specs.Monad.{Lower, done, refused, Out, _>>=_, _>>_, emits, made-all}
 use Rattle.spec.specs.Monad as monad
 use Rattle.spec.proofs.Lengths.{length-made}
 use Rattle.text.specs.Put.{last}
 use Rattle.emission.specs.declared.Counters.{Counters}
 use Rattle.emission.specs.declared.Emitted.{Emitted}
-use Rattle.emission.specs.Appends.{Texts, texts, counters-of, Appends, Positions, Room, append-none, append-then, room-after, made-append}
+use Rattle.emission.specs.Appends.{Texts, texts, counters-of, Appends, Room, append-then, room-after, made-append}
 use Rattle.emission.specs.Emits.{Emits, Allocates, emitted, allocated, allocated-emitted}
 
 abbrev pub out : List Storage → List InstructionKind → At → Out
@@ -89,9 +89,6 @@ pub room-done : {A : Type 0} {n k : ℕ} {t t1 : Texts} {c c1 : Counters} {m : L
 room-done {n} {k} r x =
     let h : At = record { line = 0; node = 0; ty = 0 } in
     room-after k (omega (arith, x .few-storages)) (omega (arith, x .few-kinds, length-made h (x .kinds))) r (x .appends h)
-
-pub does-pure : {A : Type 0} {t : Texts} {c : Counters} {a : A} → Positions t c → Does 0 t c (pure a) a t c
-does-pure p = record { storages = []; kinds = []; is = λ h. refl; appends = λ h. append-none p; few-storages = omega arith; few-kinds = omega arith }
 
 pub does-emits : {n : ℕ} {l l1 : List ℕ} {c c1 : Counters} {ks : List InstructionKind} (s : List ℕ) → length s ≤ last → c .stored ≤ last
     → length ks ≤ n → Emits l c ks l1 c1 → Does n (texts l s) c (emits ks) tt (texts l1 s) c1

@@ -1,8 +1,7 @@
 -- From field to field: a number, the numbers to a line's end, the place of a word.
--- Assumes nothing.
 use mathlib.Core.Path.{_≡_, refl, sym, ap, _∙_}
 use mathlib.Core.Bool.{Bool, true, false, _&&_}
-use mathlib.Core.List.{List, [], _∷_, _++_, append-assoc, append-nil}
+use mathlib.Core.List.{List, _∷_, _++_, append-assoc, append-nil}
 use mathlib.Core.Option.{Option, none, some}
 use Prim.Native.Nat.{ℕ, suc, _+_, _-_, _*_, _≤_, _<_}
 use native.Mathlib.Omega.{arith}
@@ -13,26 +12,7 @@ use lib.ListN.{length, take, drop, set, length-drop}
 use lib.Seq.{length-take-le}
 use Rattle.spec.specs.Text.{split, comma, number, numeral, good-start, same}
 use Rattle.tables.specs.Tables.{tab, run}
-use Rattle.fields.specs.Fields.{
-  Found,
-  fields-from,
-  parsedOf,
-  Taken,
-  taken,
-  first-number,
-  NumberAt,
-  cons-number,
-  numbers-of,
-  onto,
-  Kept,
-  Listing,
-  position,
-  added,
-  placeOf,
-  WordAt,
-  Tried,
-  Same,
-}
+use Rattle.fields.specs.Fields.{Found, fields-from, parsedOf, Taken, taken, first-number, NumberAt, cons-number, numbers-of, onto, Kept, Listing, position, added, placeOf, WordAt, Tried, Same}
 use Rattle.fields.specs.declared.Cursor.{Cursor}
 use Rattle.fields.specs.declared.Parsed.{Parsed}
 use Rattle.fields.specs.declared.Parsed.the-variants.{Number, Unread}

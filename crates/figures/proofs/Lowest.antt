@@ -1,5 +1,4 @@
 -- Euclid's algorithm gives the greatest common divisor, and `lowest` the one fraction of its value in lowest terms.
--- Assumes nothing.
 use Prim.Native.Nat.{ℕ, zero, suc, _*_, _/_, _%_, _<_, _∣_}
 use mathlib.Core.Path.{_≡_, refl, sym, subst, _∙_}
 use mathlib.Core.Bool.{Bool, true, false}

@@ -1,5 +1,4 @@
 -- The annex's mean and variance are right: each is in lowest terms, and the variance is the mean of the squared differences from the mean.
--- Assumes nothing.
 use Prim.Native.Nat.{ℕ, _-_, _*_, _<_}
 use mathlib.Core.Path.{_≡_}
 use mathlib.Core.List.{List}

@@ -1,9 +1,8 @@
 -- The variance is the mean of the squared differences from the mean: over n numbers x of sum s, n * x - s is n times such a difference.
--- Assumes nothing.
 use Prim.Native.Nat.{ℕ, _+_, _-_, _*_, _≤_, _<_}
 use mathlib.Core.Path.{_≡_, refl, _∙_}
 use mathlib.Core.Bool.{Bool, true, false}
-use mathlib.Core.List.{List, [], _∷_}
+use mathlib.Core.List.{List, _∷_}
 use native.Mathlib.Omega.{arith}
 use native.Mathlib.Nat.{mul-sub, le-of-mul-le-mul-left}
 use lib.Dec.{leb}

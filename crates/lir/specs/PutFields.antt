@@ -1,6 +1,6 @@
 -- Fields put into a lent slice, each behind its comma; the lists and the lines that they make.
 use mathlib.Core.Path.{_≡_, refl, ap}
-use mathlib.Core.List.{List, [], _∷_, _++_, append-assoc, append-nil, map}
+use mathlib.Core.List.{List, _∷_, _++_, append-assoc, append-nil, map}
 use Prim.Native.Nat.{ℕ, zero, suc, _+_, _≤_}
 use native.Mathlib.Omega.{arith}
 use native.Mathlib.Nat.{add-zero}
@@ -25,10 +25,6 @@ pub record PutFields (l : List ℕ) (at : ℕ) (fs : List (List ℕ)) (l′ : Li
   pub put : Put l at (fields fs) l′ r
 
 -- ---------------------------------------------------------------- fields
-
-pub fields-cons : (f : List ℕ) (fs : List (List ℕ)) → fields (f ∷ fs) ≡ comma ∷ f ++ fields fs
-unfolding fields
-fields-cons f fs = refl
 
 pub fields-append : (fs gs : List (List ℕ)) → fields (fs ++ gs) ≡ fields fs ++ fields gs
 unfolding fields

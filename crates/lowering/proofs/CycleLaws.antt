@@ -1,4 +1,4 @@
--- Nodes by their operands: what the cycle's functions leave, and the measure by which they end. Assumes nothing.
+-- Nodes by their operands: what the cycle's functions leave, and the measure by which they end.
 use Prim.Native.Nat.{ℕ, zero, suc, _+_, _-_, _*_, _≤_, _<_}
 use mathlib.Core.List.{List, _∷_}
 use mathlib.Core.Path.{_≡_, refl}

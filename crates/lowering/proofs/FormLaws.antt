@@ -1,4 +1,4 @@
--- A node is lowered as its form is. Assumes nothing.
+-- A node is lowered as its form is.
 use Prim.Native.Nat.{ℕ, _+_, _-_, _*_, _≤_}
 use mathlib.Core.List.{List}
 use mathlib.Core.Path.{_≡_, refl, sym, ap, subst, _∙_}

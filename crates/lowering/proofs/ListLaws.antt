@@ -1,4 +1,4 @@
--- An aggregate's parts one after another: what is lowered of them, and what is left to lower. Assumes nothing.
+-- An aggregate's parts one after another: what is lowered of them, and what is left to lower.
 use Prim.Native.Nat.{ℕ, _+_, _-_, _≤_}
 use mathlib.Core.List.{List}
 use mathlib.Core.Path.{_≡_, refl, _∙_}

@@ -1,4 +1,4 @@
--- The room of each operand and of a node's own step, from the room of the node. Assumes nothing.
+-- The room of each operand and of a node's own step, from the room of the node.
 use Prim.Native.Nat.{ℕ, _+_, _-_, _*_, _≤_}
 use mathlib.Core.List.{List}
 use mathlib.Core.Path.{_≡_}

@@ -1,4 +1,4 @@
--- A node's own step behind its operands. Assumes nothing.
+-- A node's own step behind its operands.
 use Prim.Native.Nat.{ℕ, _≤_}
 use mathlib.Core.Bool.{Bool, true, false}
 use mathlib.Core.List.{List, append-nil}

@@ -1,36 +1,10 @@
--- What the lowering of a tree uses of the room that it has. Assumes nothing.
+-- What the lowering of a tree uses of the room that it has.
 use Prim.Native.Nat.{ℕ, suc, _+_, _*_, _≤_, zero-le}
-use mathlib.Core.List.{List, [], _∷_}
+use mathlib.Core.List.{List, _∷_}
 use mathlib.Core.Path.{_≡_, refl, sym, ap, _∙_}
 use native.Mathlib.Omega.{arith}
 use lib.ListN.{length, length-append}
-use Rattle.spec.specs.Hir.{
-  At,
-  Expr,
-  boolean,
-  integer,
-  float32,
-  float64,
-  null-pointer,
-  static-address,
-  function-address,
-  read,
-  integer-unary,
-  integer-binary,
-  float-unary,
-  float-binary,
-  compare,
-  convert,
-  select,
-  address-of,
-  pointer-offset,
-  aggregate,
-  extract-element,
-  insert-element,
-  Exprs,
-  no-exprs,
-  _∷ᵉ_,
-}
+use Rattle.spec.specs.Hir.{At, Expr, boolean, integer, float32, float64, null-pointer, static-address, function-address, read, integer-unary, integer-binary, float-unary, float-binary, compare, convert, select, address-of, pointer-offset, aggregate, extract-element, insert-element, Exprs, no-exprs, _∷ᵉ_}
 use Rattle.spec.specs.Ticket.{Tables, exprsOf, nowhere}
 use Rattle.spec.specs.Readable.{TypesRight, node-sum, node-sums}
 use Rattle.spec.specs.Lir.{Value, value, Repr, unit, bit-value, bytes-value, Values, no-values, _∷ᵛ_}

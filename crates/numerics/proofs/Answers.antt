@@ -1,4 +1,4 @@
--- What `unary-at` and its like answer at the widths from 1 to 64, and outside. Assumes nothing.
+-- What `unary-at` and its like answer at the widths from 1 to 64, and outside.
 use mathlib.Core.Path.{_≡_, refl, sym, _∙_}
 use mathlib.Core.Bool.{Bool, true, false, not}
 use mathlib.Core.Option.{Option}

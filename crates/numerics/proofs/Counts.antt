@@ -1,4 +1,4 @@
--- The counts of bits at every width, by those of 64 bits. Assumes nothing.
+-- The counts of bits at every width, by those of 64 bits.
 use mathlib.Core.Path.{_≡_, refl, sym, ap, _∙_}
 use mathlib.Core.Bool.{Bool, true, false}
 use Prim.Native.Nat.{ℕ, zero, suc, _+_, _-_, _*_, _/_, _%_, _^_, _≤_, _<_, zero-le, min, max}

@@ -1,4 +1,4 @@
--- The integer u - v of two natural numbers, `subℕ u v`: its two forms, sums, and order. Assumes nothing.
+-- The integer u - v of two natural numbers, `subℕ u v`: its two forms, sums, and order.
 use mathlib.Core.Path.{_≡_, refl, sym, ap, _∙_}
 use mathlib.Core.Bool.{not}
 use Prim.Native.Nat.{ℕ, zero, suc, _+_, _-_, _≤_, _<_}

@@ -1,4 +1,4 @@
--- Numbers modulo 2 ^ N, at every width N. Assumes nothing.
+-- Numbers modulo 2 ^ N, at every width N.
 use mathlib.Core.Path.{_≡_, sym, ap, ap₂, _∙_}
 use Prim.Native.Nat.{ℕ, suc, _+_, _-_, _*_, _/_, _%_, _^_, _≤_, _<_}
 use native.Mathlib.Omega.{arith}

@@ -1,4 +1,4 @@
--- Shifts and rotates, at every width. Assumes nothing.
+-- Shifts and rotates, at every width.
 use mathlib.Core.Path.{_≡_, sym, ap, ap₂, _∙_}
 use Prim.Native.Nat.{ℕ, _+_, _-_, _*_, _/_, _%_, _^_, _≤_, _<_}
 use native.Mathlib.Omega.{arith}

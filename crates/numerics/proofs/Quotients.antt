@@ -1,4 +1,4 @@
--- Signed quotients and remainders, by the signs and the sizes of the two readings, at every width. Assumes nothing.
+-- Signed quotients and remainders, by the signs and the sizes of the two readings, at every width.
 use mathlib.Core.Path.{_≡_, refl, sym, ap, _∙_}
 use Prim.Native.Nat.{ℕ, zero, suc, _-_, _/_, _%_, _^_, _≤_, _<_}
 use native.Mathlib.Omega.{arith}

@@ -1,4 +1,4 @@
--- The signed reading of a number below 2 ^ N, at every width N: its two cases, and all that follows from them. Assumes nothing.
+-- The signed reading of a number below 2 ^ N, at every width N: its two cases, and all that follows from them.
 use mathlib.Core.Path.{_≡_, refl, sym, ap, ap₂, _∙_}
 use Prim.Native.Nat.{ℕ, zero, suc, _+_, _-_, _*_, _/_, _%_, _^_, _≤_, _<_, min}
 use native.Mathlib.Omega.{arith}

@@ -1,6 +1,6 @@
 -- From the records to the trees: select and extract over values that were lowered one after the other.
 use mathlib.Core.Path.{_≡_, refl, sym, ap, subst, _∙_}
-use mathlib.Core.List.{List, [], _∷_, _++_, map, append-nil}
+use mathlib.Core.List.{List, _∷_, _++_, map, append-nil}
 use mathlib.Core.Option.{Option, none, some}
 use Prim.Native.Nat.{ℕ, _+_, _*_, _≤_}
 use native.Mathlib.Omega.{arith}
@@ -158,7 +158,3 @@ module _ {b : Bufs} {c : State} {o : Outcome Value} {b1 : Bufs} {x : Val} {c1 : 
       let hp : heads (b1 .stack) (c .top) (c1 .top) ≡ parts-of (d .v) = left-heads l h in
       let g : found-in ((head-of x) .shape) (heads (b1 .stack) (c .top) (c1 .top)) i ≡ found-in ((root (d .v)) .shape) (parts-of (d .v)) i = ap (λ (z : Head). found-in (z .shape) (heads (b1 .stack) (c .top) (c1 .top)) i) (d .head) ∙ ap (λ (z : List Head). found-in ((root (d .v)) .shape) z i) hp in
       record { shown = by-value T (d .v) r (subst (λ (z : List Head). case-extract (b1 .stack) (at-top c1 (c .top)) (env .line) z stack2 r) g (m .shown)) }
-
-  -- what `extract` asks for
-  pub extract-ready : (c .top ≤ c1 .top) × (c1 .top ≤ length (b1 .stack)) × Stands (b1 .stack) (c .top) (c1 .top)
-  extract-ready = let l = d .left in (omega arith, left-fits l h, stands-left l h)

@@ -1,27 +1,23 @@
 -- The operands of a value one by one: what a cursor has left to go through.
 use mathlib.Core.Path.{_≡_, refl, sym, ap, subst, _∙_}
-use mathlib.Core.List.{List, [], _∷_, _++_, map}
-use Prim.Native.Nat.{ℕ, zero, suc, _+_, _-_, _≤_, _<_}
+use mathlib.Core.List.{List, _∷_, _++_, map}
+use Prim.Native.Nat.{ℕ, zero, suc, _+_, _≤_, _<_}
 use native.Mathlib.Omega.{arith}
 use native.Mathlib.Numerals.{add-one}
 use lib.ListN.{length, drop, getD, length-map, drop-of-length-le, List·getD-map}
 use lib.Seq.{drop-cons}
-use Rattle.spec.specs.Monad.{Outcome}
-use Rattle.spec.specs.Lir.{BitOperand, ValueOperand, bit-operand, byte-operand, immediate, Value, flatten-value-operands}
+use Rattle.spec.specs.Lir.{ValueOperand, bit-operand, byte-operand, immediate}
 use Rattle.lir.specs.Abstract.{tab, byte-at, bytes-of, bit-operand-of, byte-operand-of}
 use Rattle.lir.specs.declared.BitOperand.{BitOperand as Bit}
 use Rattle.lir.specs.declared.Bytes.{Bytes}
 use Rattle.emission.specs.Operands.{length-bytes}
-use Rattle.values.specs.declared.State.{State}
 use Rattle.values.specs.declared.Value.{Value as Val}
-use Rattle.values.specs.Heads.{Head, root, parts-of, head-of, All-sound, Sound-value, head-operands, operands-of, flatten-preorder}
-use Rattle.values.specs.Left.{Bufs, DoneValue, DoneBit}
+use Rattle.values.specs.Heads.{head-of, All-sound, Sound-value, head-operands, operands-of}
 use Rattle.values.specs.Stack.{value-at, between, heads, Stands}
 use Rattle.parts.specs.declared.Operand.{Operand}
 use Rattle.parts.specs.declared.Cursor.{Cursor}
 use Rattle.parts.specs.declared.Next.{Next}
 use Rattle.parts.specs.Records.{between-cons, between-none, stands-from}
-use Rattle.parts.specs.Meets.{left-fits, first-stands, second-stands}
 
 abbrev pub operand-of : Operand → ValueOperand
 operand-of (Operand.Bit b) = bit-operand (bit-operand-of b)
@@ -69,11 +65,6 @@ ready-first v h k s g = record { within = h; fits = k; stands = s; sound = g; co
 pub left-first : (l : List ℕ) (from end : ℕ) (v : Val) → left-operands l end (before-first v from) ≡ operands-of (head-of v ∷ heads l from end)
 unfolding left-operands
 left-first l from end v = refl
-
--- the operands of the tree that the records stand for
-pub left-flatten : (l : List ℕ) (from end : ℕ) (x : Val) (v : Value) → head-of x ≡ root v → heads l from end ≡ parts-of v → left-operands l end (before-first x from) ≡ flatten-value-operands v
-left-flatten l from end x v e f =
-    left-first l from end x ∙ ap (λ (z : Head). operands-of (z ∷ heads l from end)) e ∙ ap (λ (z : List Head). operands-of (root v ∷ z)) f ∙ sym (flatten-preorder v)
 
 -- ---------------------------------------------------------------- the operands of one record
 
@@ -156,22 +147,3 @@ next-over {l} {end} {c} {d} f h =
     let far : end ≤ d .at = omega (arith, f .last h) in
     let hs : heads l (d .at) end ≡ [] = ap (λ (z : List Val). map head-of z) (between-none l (d .at) end far) in
     record { shown = sym (f .same) ∙ ap (λ (z : List ValueOperand). z ++ operands-of (heads l (d .at) end)) none ∙ ap operands-of hs }
-
--- ---------------------------------------------------------------- select: two values and a bit were lowered
-
-module _ {b : Bufs} {c : State} {o : Outcome Value} {b1 : Bufs} {x : Val} {c1 : State} {p : Outcome Value} {b2 : Bufs} {y : Val} {c2 : State} {q : Outcome BitOperand} {b3 : Bufs} {w : Bit} {c3 : State} (d : DoneValue b c o b1 x c1) (e : DoneValue b1 c1 p b2 y c2) (f : DoneBit b2 c2 q b3 w c3) (h : c .top ≤ length (b .stack)) where
-  pub first-ready : Ready (b3 .stack) (c1 .top) (before-first x (c .top))
-  first-ready =
-      let l = d .left in
-      let k = e .left in
-      let g = f .left in
-      let h1 = left-fits l h in
-      ready-first x (omega arith) (omega arith) (first-stands d e f h) (d .sound)
-
-  pub second-ready : Ready (b3 .stack) (c2 .top) (before-first y (c1 .top))
-  second-ready =
-      let l = d .left in
-      let k = e .left in
-      let g = f .left in
-      let h2 = left-fits k (left-fits l h) in
-      ready-first y (omega arith) (omega arith) (second-stands d e f h) (e .sound)

@@ -1,4 +1,4 @@
--- Steps that append nothing: what they answer, one behind the other. Assumes nothing.
+-- Steps that append nothing: what they answer, one behind the other.
 use mathlib.Core.Path.{_≡_, refl, sym, ap, _∙_}
 use mathlib.Core.Bool.{Bool, true, false}
 use mathlib.Core.Option.{Option, none, some}

@@ -1,4 +1,4 @@
--- What is no struct, no array and no integer node, by the kind found. Assumes nothing.
+-- What is no struct, no array and no integer node, by the kind found.
 use mathlib.Core.Path.{_≡_, refl}
 use mathlib.Core.List.{List}
 use mathlib.Core.Option.{none}

@@ -1,7 +1,6 @@
--- How much reading a type appends, and how many records its value has: by its size and its weight. Assumes nothing.
+-- How much reading a type appends, and how many records its value has: by its size and its weight.
 use mathlib.Core.Path.{_≡_, subst}
-use mathlib.Core.Bool.{Bool, true, false}
-use mathlib.Core.List.{List, [], _∷_, _++_}
+use mathlib.Core.List.{List, _∷_, _++_}
 use Prim.Native.Nat.{ℕ, zero, suc, _+_, _*_, _≤_, zero-le}
 use native.Mathlib.Omega.{arith}
 use lib.ListN.{length, length-append}
@@ -11,9 +10,8 @@ use Rattle.spec.specs.Readable.{TypesRight}
 use Rattle.spec.specs.Lir.{Value, value, aggregate, Values}
 use Rattle.spec.specs.Monad.{Out, Outcome, done, refused, Lower, nothing, prepend, bind-to, _>>=_, _>>_}
 use Rattle.spec.specs.Monad as monad
-use Rattle.spec.specs.Limits.{type-depth-limit}
-use Rattle.spec.specs.Allocation.{type-size, allocate-storage, allocate-bit-temporary, Location}
-use Rattle.spec.specs.ReadBytes.{read-elements, read-fields, read-plain, read-bool-byte, read-word, read-bytes-as-type, read-location}
+use Rattle.spec.specs.Allocation.{type-size, allocate-storage, allocate-bit-temporary}
+use Rattle.spec.specs.ReadBytes.{read-elements, read-fields, read-plain, read-bool-byte, read-word, read-bytes-as-type}
 use Rattle.values.specs.Heads.{parts-of, preorders}
 use Rattle.values.specs.Laws.{cons-to}
 use Rattle.reads.specs.Reading.{size-of, weight-of}
@@ -111,12 +109,3 @@ module _ (T : Tables) (R : TypesRight T) where
   few-read (suc d) s ty o h c =
       let g = few-word T (λ t p. read-bytes-as-type T d s t p) (λ t p. few-read d s t p) s ty o ((typeAt T ty) .word) ((typeAt T ty) .args) h c in
       rw (← (R .sized ty), ← (R .weighed ty)) at g
-
-  few-by : (b : Bool) (s ty o : ℕ) (h : hir.At) (c : monad.Counters)
-      → Few (size-of T ty) (weight-of T ty) (read-location T (record { storage = s; offset = o; ty = ty; is-bit = b }) h c)
-  unfolding read-location
-  few-by true s ty o h c = record { shown = (zero-le, zero-le, omega (arith, weight-least ty)) }
-  few-by false s ty o h c = few-read type-depth-limit s ty o h c
-
-  pub few-location : (l : Location) (h : hir.At) (c : monad.Counters) → Few (size-of T (l .ty)) (weight-of T (l .ty)) (read-location T l h c)
-  few-location l h c = few-by (l .is-bit) (l .storage) (l .ty) (l .offset) h c

@@ -1,7 +1,7 @@
 -- Two texts that differ only in older storages' regions, or in variables and statics added last of their kind to one, have the same listing.
 use Prim.Native.Nat.{ℕ, suc}
 use mathlib.Core.Bool.{Bool, true, false, not}
-use mathlib.Core.List.{List, [], _∷_, _++_, append-assoc}
+use mathlib.Core.List.{List, _∷_, _++_, append-assoc}
 use mathlib.Core.Option.{Option, none, some}
 use mathlib.Core.Path.{_≡_, refl}
 use native.Mathlib.Omega.{arith}
@@ -12,37 +12,8 @@ use Rattle.spec.specs.Text.{split, line-feed}
 use Rattle.spec.specs.Limits.{text-limit}
 use Rattle.spec.specs.Ticket.{PlacedLine, Tables}
 use Rattle.spec.specs.Forms.{Head, s-line, v-line, g-line, Line, lineOf, values}
-use Rattle.spec.specs.Read.{
-  Reading,
-  rank,
-  refusal-of,
-  placed-line,
-  add-line,
-  add,
-  stop,
-  go,
-  step,
-  accepted,
-  left-over,
-  at-end,
-  read-lines,
-  start,
-  read-ticket,
-}
-use Rattle.spec.specs.Alike.{
-  both-end,
-  MoreOf,
-  of-kind,
-  none-of,
-  MoreLines,
-  same-end,
-  same-line,
-  other-regions,
-  more-variable,
-  more-static,
-  SameListing,
-  SameListingOfLines,
-}
+use Rattle.spec.specs.Read.{Reading, rank, refusal-of, placed-line, add-line, add, stop, go, step, accepted, left-over, at-end, read-lines, start, read-ticket}
+use Rattle.spec.specs.Alike.{both-end, MoreOf, of-kind, none-of, MoreLines, same-end, same-line, other-regions, more-variable, more-static, SameListing, SameListingOfLines}
 use Rattle.spec.proofs.Bools.{and-left, and-right}
 use Rattle.spec.proofs.AlikePairs.{pair-append}
 use Rattle.spec.proofs.AlikeListing.{same-listing}

@@ -1,26 +1,13 @@
 -- Places over tables with more variables and statics: where one resolves over fewer, it resolves the same over more.
-use Prim.Native.Nat.{ℕ, zero, suc, _+_}
-use mathlib.Core.List.{List, [], _∷_, _++_}
+use Prim.Native.Nat.{ℕ, zero, suc}
+use mathlib.Core.List.{List, _∷_, _++_}
 use mathlib.Core.Option.{some}
 use mathlib.Core.Path.{_≡_}
 use Rattle.spec.specs.Hir.{Expr, Place, variable, static, field, element, byte-offset}
 use Rattle.spec.specs.Ticket.{TypeWord, PlacedLine, Tables}
 use Rattle.spec.specs.Operands.{nth}
 use Rattle.spec.specs.Allocation.{type-size}
-use Rattle.spec.specs.Places.{
-  Base,
-  constant-usize,
-  within,
-  field-offset,
-  element-offset,
-  base-of,
-  part-of,
-  opaque-rest,
-  resolve-place-base,
-  with-type,
-  location-in,
-  resolve-place,
-}
+use Rattle.spec.specs.Places.{Base, constant-usize, within, field-offset, element-offset, base-of, part-of, opaque-rest, resolve-place-base, with-type, location-in, resolve-place}
 use Rattle.spec.specs.Lower.{lower-expression}
 use Rattle.spec.proofs.AlikeLogic.{Follows, _then_, _next_, answers, found, known, required}
 use Rattle.spec.proofs.AlikeReads.{More, extended}

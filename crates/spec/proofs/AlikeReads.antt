@@ -1,41 +1,13 @@
 -- Allocation and reading look at types alone: over tables with the same types they answer the same.
 use Prim.Native.Nat.{ℕ, zero, suc, _+_}
 use mathlib.Core.Bool.{Bool, true, false}
-use mathlib.Core.List.{List, [], _∷_, _++_}
+use mathlib.Core.List.{List, _∷_, _++_}
 use mathlib.Core.Path.{_≡_, refl}
 use Rattle.spec.specs.Limits.{type-depth-limit}
-use Rattle.spec.specs.Ticket.{
-  TypeWord,
-  tUnit,
-  tBool,
-  tBits,
-  tFloat,
-  tPointer,
-  tArray,
-  tStruct,
-  tTuple,
-  tOpaque,
-  StorageLine,
-  PlacedLine,
-  PlaceLine,
-  NodeLine,
-  Tables,
-  typeAt,
-  arg,
-}
+use Rattle.spec.specs.Ticket.{TypeWord, tUnit, tBool, tBits, tFloat, tPointer, tArray, tStruct, tTuple, tOpaque, StorageLine, PlacedLine, PlaceLine, NodeLine, Tables, typeAt, arg}
 use Rattle.spec.specs.Lir.{Value, Purpose}
 use Rattle.spec.specs.Monad.{Lower}
-use Rattle.spec.specs.Allocation.{
-  type-size,
-  integer-width,
-  allocate-bit-temporary,
-  allocate-carry,
-  Location,
-  allocate-sized,
-  allocate-temporary,
-  bytes-at,
-  location-bytes,
-}
+use Rattle.spec.specs.Allocation.{type-size, integer-width, allocate-bit-temporary, allocate-carry, Location, allocate-sized, allocate-temporary, bytes-at, location-bytes}
 use Rattle.spec.specs.ReadBytes.{read-elements, read-fields, read-plain, read-bool-byte, read-word, read-bytes-as-type, read-location}
 use Rattle.spec.proofs.AlikeLogic.{Follows, _then_, _next_, answers, refuses, known, emitting-one, allocating}
 

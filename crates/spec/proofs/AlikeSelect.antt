@@ -1,7 +1,7 @@
 -- The own steps of selects and addresses: of an older storage, only its owner is looked at.
 use Prim.Native.Nat.{ℕ}
 use mathlib.Core.Bool.{Bool, true, false}
-use mathlib.Core.List.{List, [], _∷_}
+use mathlib.Core.List.{List, _∷_}
 use mathlib.Core.Path.{_≡_, refl}
 use lib.ListN.{take}
 use Rattle.spec.specs.Hir.{Place}
@@ -11,18 +11,7 @@ use Rattle.spec.specs.Operands.{resize}
 use Rattle.spec.specs.Allocation.{type-size, pointer-type, Location, bytes-at, location-value-storages}
 use Rattle.spec.specs.Places.{is-one}
 use Rattle.spec.specs.Arithmetic.{adds}
-use Rattle.spec.specs.Select.{
-  select-pieces,
-  select-to-location,
-  lower-select,
-  require-addressable,
-  second-storage,
-  materialize-location-address,
-  lower-address-of,
-  lower-static-address,
-  lower-function-address,
-  lower-pointer-offset,
-}
+use Rattle.spec.specs.Select.{select-pieces, select-to-location, lower-select, require-addressable, second-storage, materialize-location-address, lower-address-of, lower-static-address, lower-function-address, lower-pointer-offset}
 use Rattle.spec.specs.Alike.{Pairwise, AlikeStorage}
 use Rattle.spec.proofs.AlikeLogic.{Follows, _then_, _next_, answers, found, known, required, emitting, emitting-one, narrowing}
 use Rattle.spec.proofs.AlikeReads.{More, extended, carry-alike, temporary-alike, bytes-alike, location-alike}

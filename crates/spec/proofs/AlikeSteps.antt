@@ -10,42 +10,9 @@ use Rattle.spec.specs.Ticket.{Tables}
 use Rattle.spec.specs.Lir.{ByteStorage, ByteOperand, BitOperand, not-byte, byte-binary, copy-byte, Purpose, Value}
 use Rattle.spec.specs.Operands.{value-repr, repr-bit, value-bytes, value-bit}
 use Rattle.spec.specs.Allocation.{type-size, odd-bits, Location, bytes-at}
-use Rattle.spec.specs.Operators.{
-  UnaryForm,
-  negating,
-  inverting,
-  counting,
-  unary-form,
-  BinaryForm,
-  adding,
-  subtracting,
-  bytewise,
-  shifting,
-  whole,
-  binary-form,
-  ConversionForm,
-  resizing,
-  extending-sign,
-  reinterpreting,
-  from-boolean,
-  to-boolean,
-  of-float,
-  conversion-form,
-}
+use Rattle.spec.specs.Operators.{UnaryForm, negating, inverting, counting, unary-form, BinaryForm, adding, subtracting, bytewise, shifting, whole, binary-form, ConversionForm, resizing, extending-sign, reinterpreting, from-boolean, to-boolean, of-float, conversion-form}
 use Rattle.spec.specs.Arithmetic.{zip2, zip3, adds, subtracts, negates, masks, shifts, mask-location, unary-instructions, lower-integer-unary, binary-instructions, lower-integer-binary}
-use Rattle.spec.specs.Conversions.{
-  bit-to-bytes,
-  lower-compare,
-  not-zero,
-  value-as-bit,
-  normalized-bytes,
-  resized,
-  sign-extended,
-  boolean-to-integer,
-  integer-to-bool,
-  reinterpreted,
-  lower-conversion,
-}
+use Rattle.spec.specs.Conversions.{bit-to-bytes, lower-compare, not-zero, value-as-bit, normalized-bytes, resized, sign-extended, boolean-to-integer, integer-to-bool, reinterpreted, lower-conversion}
 use Rattle.spec.proofs.AlikeLogic.{Follows, _then_, _next_, answers, refuses, known, required, emitting, emitting-one}
 use Rattle.spec.proofs.AlikeReads.{More, extended, bit-alike, carry-alike, width-alike, temporary-alike, bytes-alike, location-alike}
 

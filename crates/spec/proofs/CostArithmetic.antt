@@ -11,34 +11,8 @@ use Rattle.spec.specs.Readable.{TypesRight}
 use Rattle.spec.specs.Lir.{Storage, ByteStorage, ByteOperand, immediate, Value, add, subtract, not-byte, byte-binary}
 use Rattle.spec.specs.Operands.{value-bytes}
 use Rattle.spec.specs.Allocation.{width-of, Location, integer-width, allocate-carry}
-use Rattle.spec.specs.Operators.{
-  UnaryForm,
-  negating,
-  inverting,
-  counting,
-  unary-form,
-  BinaryForm,
-  adding,
-  subtracting,
-  bytewise,
-  shifting,
-  whole,
-  binary-form,
-}
-use Rattle.spec.specs.Arithmetic.{
-  zip2,
-  zip3,
-  carry-in,
-  adds,
-  subtracts,
-  negates,
-  byte-rotate,
-  shifts,
-  unary-instructions,
-  lower-integer-unary,
-  binary-instructions,
-  lower-integer-binary,
-}
+use Rattle.spec.specs.Operators.{UnaryForm, negating, inverting, counting, unary-form, BinaryForm, adding, subtracting, bytewise, shifting, whole, binary-form}
+use Rattle.spec.specs.Arithmetic.{zip2, zip3, carry-in, adds, subtracts, negates, byte-rotate, shifts, unary-instructions, lower-integer-unary, binary-instructions, lower-integer-binary}
 use Rattle.spec.specs.Demands.{kind-bytes, writes}
 use Rattle.spec.proofs.CostLogic.{Cost, Does, Any, _then_, _next_, within}
 use Rattle.spec.proofs.CostSteps.{budget, known, emitting, emitting-one, allocating}

@@ -1,24 +1,22 @@
 -- What a step appends, with its writes in the very storages that it appends.
-use Prim.Native.Nat.{ℕ, suc, _+_, _≤_, _<_}
+use Prim.Native.Nat.{ℕ, suc, _≤_, _<_}
 use mathlib.Core.Bool.{true}
-use mathlib.Core.List.{List, [], _∷_}
+use mathlib.Core.List.{List, _∷_}
 use mathlib.Core.Path.{_≡_, refl}
 use native.Mathlib.Omega.{arith}
 use lib.Dec.{eqb}
 use borrow.Author.Tests.{eqb-true, eq-eqb, ne-eqb}
-use Rattle.spec.specs.Hir.{At, Expr, Exprs}
+use Rattle.spec.specs.Hir.{At, Expr}
 use Rattle.spec.specs.Ticket.{Tables}
-use Rattle.spec.specs.Readable.{TypesRight, node-sum, node-sums}
-use Rattle.spec.specs.Lir.{BitOperand, Storage, StorageKind, Value, Values}
+use Rattle.spec.specs.Readable.{TypesRight, node-sum}
+use Rattle.spec.specs.Lir.{BitOperand, Storage, StorageKind, Value}
 use Rattle.spec.specs.Monad.{Counters, Out, Lower, done}
-use Rattle.spec.specs.Lower.{lower-expression, lower-expressions, expression-as-bit}
+use Rattle.spec.specs.Lower.{lower-expression, expression-as-bit}
 use Rattle.spec.specs.Demands.{kind-of, numbered, writes-inside}
 use Rattle.spec.proofs.Bools.{and-left, and-right}
 use Rattle.spec.proofs.CostLogic.{Cost, _⊞_, Any, Fits, cost-of, Each, none-left, _also_, Advanced, Kind, Here, Ok, Does}
-use Rattle.spec.proofs.CostSteps.{budget}
-use Rattle.spec.proofs.CostReads.{reading, size-of, weight-of, records-of, Small}
-use Rattle.spec.proofs.CostLocal.{Own, own-step}
-use Rattle.spec.proofs.CostTree.{tree-budget, trees-budget, expression-does, expressions-does, expression-as-bit-does}
+use Rattle.spec.proofs.CostReads.{reading, weight-of, Small}
+use Rattle.spec.proofs.CostTree.{tree-budget, expression-does, expression-as-bit-does}
 
 -- ---------------------------------------------------------------- storages numbered on from n are found under their numbers
 
@@ -67,19 +65,10 @@ closed m k Q f h c a d o e =
     record { advanced = r .0; cost = g .cost; inside = g .inside; result = g .result }
 
 module _ (T : Tables) (R : TypesRight T) (h : At) (c : Counters) where
-  -- THE LOCAL LEMMA, of a step that is done
-  pub own-step-done : {i : At} {n : ℕ} {m : Lower Value} → Own T i n m → (v : Value) (d : Counters) (o : Out)
-      → m h c ≡ done v d o → Done (budget (size-of T (i .ty))) c d o (Small (n + weight-of T (i .ty)) v)
-  own-step-done {i} {n} {m} s = closed m (budget (size-of T (i .ty))) (Small (n + weight-of T (i .ty))) (λ L. own-step T R s) h c
-
-  -- THE SUM, of an expression and of a list of them
+  -- THE SUM, of an expression
   pub lowers : (e : Expr) (v : Value) (d : Counters) (o : Out)
       → lower-expression T e h c ≡ done v d o → Done (tree-budget T e) c d o (Small (node-sum (weight-of T) e) v)
   lowers e = closed (lower-expression T e) (tree-budget T e) (Small (node-sum (weight-of T) e)) (λ L. expression-does T R e) h c
-
-  pub lowers-all : (es : Exprs) (vs : Values) (d : Counters) (o : Out)
-      → lower-expressions T es h c ≡ done vs d o → Done (trees-budget T es) c d o (records-of vs ≤ node-sums (weight-of T) es)
-  lowers-all es = closed (lower-expressions T es) (trees-budget T es) (λ vs. records-of vs ≤ node-sums (weight-of T) es) (λ L. expressions-does T R es) h c
 
   pub lowers-bit : (i : At) (e : Expr) (b : BitOperand) (d : Counters) (o : Out)
       → expression-as-bit T i e h c ≡ done b d o → Done (tree-budget T e ⊞ reading 1) c d o (Any b)

@@ -1,7 +1,7 @@
 -- The own steps of comparisons and conversions, and of a select's condition, each within its budget.
 use Prim.Native.Nat.{ℕ, suc, _+_, _≤_}
 use mathlib.Core.Bool.{Bool, true, false}
-use mathlib.Core.List.{List, [], _∷_, map}
+use mathlib.Core.List.{List, _∷_, map}
 use mathlib.Core.Path.{_≡_, refl}
 use native.Mathlib.Omega.{arith}
 use native.Mathlib.Nat.{le-refl, le-trans, le-of-eq}
@@ -11,40 +11,12 @@ use lib.ListN.{length, length-map}
 use Rattle.spec.specs.Hir.{CompareOp, ConversionOp}
 use Rattle.spec.specs.Ticket.{Tables}
 use Rattle.spec.specs.Readable.{TypesRight}
-use Rattle.spec.specs.Lir.{
-  Storage,
-  ByteStorage,
-  ByteOperand,
-  immediate,
-  BitOperand,
-  Purpose,
-  Value,
-  value,
-  unit,
-  bit-value,
-  bytes-value,
-  aggregate,
-  copy-byte,
-  condition,
-  integer-to-boolean,
-}
+use Rattle.spec.specs.Lir.{Storage, ByteStorage, ByteOperand, immediate, BitOperand, Purpose, Value, value, unit, bit-value, bytes-value, aggregate, copy-byte, condition, integer-to-boolean}
 use Rattle.spec.specs.Operands.{value-bytes, value-bit, resize}
 use Rattle.spec.specs.Allocation.{type-size, integer-width, odd-bits, allocate-bit-temporary, bytes-at}
 use Rattle.spec.specs.Operators.{ConversionForm, resizing, extending-sign, reinterpreting, from-boolean, to-boolean, of-float, conversion-form}
 use Rattle.spec.specs.Arithmetic.{zip2}
-use Rattle.spec.specs.Conversions.{
-  bit-to-bytes,
-  lower-compare,
-  not-zero,
-  value-as-bit,
-  normalized-bytes,
-  resized,
-  sign-extended,
-  boolean-to-integer,
-  integer-to-bool,
-  reinterpreted,
-  lower-conversion,
-}
+use Rattle.spec.specs.Conversions.{bit-to-bytes, lower-compare, not-zero, value-as-bit, normalized-bytes, resized, sign-extended, boolean-to-integer, integer-to-bool, reinterpreted, lower-conversion}
 use Rattle.spec.specs.Demands.{kind-bytes, writes}
 use Rattle.spec.proofs.CostLogic.{Does, Each, none-left, _also_, Any, _then_, _next_, within, giving}
 use Rattle.spec.proofs.CostSteps.{budget, Inside, answers, refuses, known, required, emitting, emitting-one, allocating}

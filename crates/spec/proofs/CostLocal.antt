@@ -1,6 +1,6 @@
 -- THE LOCAL LEMMA: what a node's own step appends, by the size of its TYPE.
 use Prim.Native.Nat.{ℕ, zero, suc, _+_, _≤_}
-use mathlib.Core.List.{List, [], _∷_}
+use mathlib.Core.List.{List, _∷_}
 use mathlib.Core.Option.{Option, none, some, Option·none-ne-some, Option·some-injective}
 use mathlib.Core.Path.{_≡_, refl, sym, ap}
 use native.Mathlib.Omega.{arith}
@@ -21,13 +21,7 @@ use Rattle.spec.proofs.CostReads.{size-of, weight-of, weight-least, boo
 use Rattle.spec.proofs.CostArithmetic.{lower-integer-unary-does, lower-integer-binary-does}
 use Rattle.spec.proofs.CostConversions.{lower-compare-does, lower-conversion-does, value-as-bit-does}
 use Rattle.spec.proofs.CostPlaces.{lower-read-does}
-use Rattle.spec.proofs.CostSelect.{
-  lower-select-does,
-  lower-address-of-does,
-  lower-static-address-does,
-  lower-function-address-does,
-  lower-pointer-offset-does,
-}
+use Rattle.spec.proofs.CostSelect.{lower-select-does, lower-address-of-does, lower-static-address-does, lower-function-address-does, lower-pointer-offset-does}
 
 -- ---------------------------------------------------------------- parts of aggregates
 

@@ -1,29 +1,12 @@
 -- What reading a type appends, and how many values its value is made of.
 use Prim.Native.Nat.{ℕ, zero, suc, _+_, _*_, _≤_, zero-le}
 use mathlib.Core.Bool.{Bool, true, false}
-use mathlib.Core.List.{List, [], _∷_}
+use mathlib.Core.List.{List, _∷_}
 use mathlib.Core.Path.{refl}
 use native.Mathlib.Omega.{arith}
 use native.Mathlib.Nat.{le-refl}
 use Rattle.spec.specs.Limits.{type-depth-limit}
-use Rattle.spec.specs.Ticket.{
-  TypeWord,
-  tUnit,
-  tBool,
-  tBits,
-  tFloat,
-  tPointer,
-  tArray,
-  tStruct,
-  tTuple,
-  tOpaque,
-  Tables,
-  typeAt,
-  arg,
-  sum,
-  type-size-by,
-  weight-by,
-}
+use Rattle.spec.specs.Ticket.{TypeWord, tUnit, tBool, tBits, tFloat, tPointer, tArray, tStruct, tTuple, tOpaque, Tables, typeAt, arg, sum, type-size-by, weight-by}
 use Rattle.spec.specs.Readable.{TypesRight}
 use Rattle.spec.specs.Lir.{Storage, Value, value, Repr, unit, bit-value, bytes-value, aggregate, Values, no-values, _∷ᵛ_}
 use Rattle.spec.specs.Monad.{Lower}

@@ -1,7 +1,7 @@
 -- The own steps of select, addresses and pointer offsets, each within its budget.
 use Prim.Native.Nat.{ℕ, _+_, _*_, _≤_}
 use mathlib.Core.Bool.{Bool, true, false}
-use mathlib.Core.List.{List, [], _∷_, map}
+use mathlib.Core.List.{List, _∷_, map}
 use mathlib.Core.Option.{some, Option·none-ne-some, Option·some-injective}
 use mathlib.Core.Path.{_≡_, refl, sym, ap, _∙_}
 use native.Mathlib.Omega.{arith}
@@ -10,23 +10,7 @@ use lib.ListN.{length, length-map, take}
 use Rattle.spec.specs.Hir.{Place}
 use Rattle.spec.specs.Ticket.{Tables, storageAt}
 use Rattle.spec.specs.Readable.{TypesRight}
-use Rattle.spec.specs.Lir.{
-  Storage,
-  ByteStorage,
-  BitOperand,
-  ValueOperand,
-  bit-operand,
-  byte-operand,
-  ValueStorage,
-  bit-storage,
-  byte-storage,
-  InstructionKind,
-  Value,
-  add,
-  address-of,
-  function-address,
-  flatten-value-operands,
-}
+use Rattle.spec.specs.Lir.{Storage, ByteStorage, BitOperand, ValueOperand, bit-operand, byte-operand, ValueStorage, bit-storage, byte-storage, InstructionKind, Value, add, address-of, function-address, flatten-value-operands}
 use Rattle.spec.specs.Lir as lir
 use Rattle.spec.specs.Monad.{_>>=_, _>>_, emit}
 use Rattle.spec.specs.Operands.{value-bytes, resize}
@@ -34,19 +18,7 @@ use Rattle.spec.specs.Allocation.{pointer-type, Location, allocate-carry
 use Rattle.spec.specs.Places.{is-one}
 use Rattle.spec.specs.ReadBytes.{read-location}
 use Rattle.spec.specs.Arithmetic.{carry-in, adds, first-storage}
-use Rattle.spec.specs.Select.{
-  select-piece,
-  select-pieces,
-  select-to-location,
-  lower-select,
-  require-addressable,
-  second-storage,
-  materialize-location-address,
-  lower-address-of,
-  lower-static-address,
-  lower-function-address,
-  lower-pointer-offset,
-}
+use Rattle.spec.specs.Select.{select-piece, select-pieces, select-to-location, lower-select, require-addressable, second-storage, materialize-location-address, lower-address-of, lower-static-address, lower-function-address, lower-pointer-offset}
 use Rattle.spec.specs.Demands.{kind-bytes, to-byte, writes}
 use Rattle.spec.proofs.CostLogic.{Cost, free, Does, Each, none-left, _also_, each-first, each-rest, Kind, Any, _then_, _next_, within, giving}
 use Rattle.spec.proofs.CostSteps.{emitted, Inside, answers, known, required, emitting, emitting-one, narrowing, allocating}

@@ -1,29 +1,14 @@
 -- Shifts and rotates: how many instructions, where they write, and what a width of 8 leaves over for them.
 use Prim.Native.Nat.{ℕ, zero, suc, _+_, _/_, _%_, _≤_, _<_, min}
 use mathlib.Core.Bool.{Bool, true, false, _&&_, cond}
-use mathlib.Core.List.{List, [], _∷_}
+use mathlib.Core.List.{List, _∷_}
 use mathlib.Core.Option.{Option, none, some}
 use mathlib.Core.Path.{_≡_, refl}
 use native.Mathlib.Omega.{arith}
 use lib.Dec.{eqb, leb, T, leb→le}
 use borrow.Author.Tests.{eqb-true}
 use lib.ListN.{length}
-use Rattle.spec.specs.Ticket.{
-  TypeWord,
-  tUnit,
-  tBool,
-  tBits,
-  tFloat,
-  tPointer,
-  tArray,
-  tStruct,
-  tTuple,
-  tOpaque,
-  Tables,
-  typeAt,
-  arg,
-  type-size-by,
-}
+use Rattle.spec.specs.Ticket.{TypeWord, tUnit, tBool, tBits, tFloat, tPointer, tArray, tStruct, tTuple, tOpaque, Tables, typeAt, arg, type-size-by}
 use Rattle.spec.specs.Readable.{TypesRight}
 use Rattle.spec.specs.Lir.{Storage, ByteStorage, ByteOperand, InstructionKind, RotateDirection, ShiftOp, shift-bytes}
 use Rattle.spec.specs.Lir as lir

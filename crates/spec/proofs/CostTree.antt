@@ -2,33 +2,7 @@
 use Prim.Native.Nat.{ℕ, _+_, _*_, _≤_, zero-le}
 use mathlib.Core.List.{List}
 use native.Mathlib.Omega.{arith}
-use Rattle.spec.specs.Hir.{
-  At,
-  Expr,
-  boolean,
-  integer,
-  float32,
-  float64,
-  null-pointer,
-  static-address,
-  function-address,
-  read,
-  integer-unary,
-  integer-binary,
-  float-unary,
-  float-binary,
-  compare,
-  convert,
-  select,
-  address-of,
-  pointer-offset,
-  aggregate,
-  extract-element,
-  insert-element,
-  Exprs,
-  no-exprs,
-  _∷ᵉ_,
-}
+use Rattle.spec.specs.Hir.{At, Expr, boolean, integer, float32, float64, null-pointer, static-address, function-address, read, integer-unary, integer-binary, float-unary, float-binary, compare, convert, select, address-of, pointer-offset, aggregate, extract-element, insert-element, Exprs, no-exprs, _∷ᵉ_}
 use Rattle.spec.specs.Ticket.{Tables}
 use Rattle.spec.specs.Readable.{TypesRight, node-sum, node-sums}
 use Rattle.spec.specs.Lir.{Storage, Value}

@@ -1,7 +1,7 @@
 -- A `bool` is 0 or 1: kept by every accepted line, and so in the expression of every node.
 use Prim.Native.Nat.{ℕ, zero, suc, _-_, _≤_}
 use mathlib.Core.Bool.{true}
-use mathlib.Core.List.{List, [], _∷_}
+use mathlib.Core.List.{List, _∷_}
 use mathlib.Core.Option.{none}
 use mathlib.Core.Path.{_≡_, refl, subst}
 use native.Mathlib.Omega.{arith}
@@ -9,38 +9,7 @@ use borrow.Author.Tests.{le-leb}
 use lib.ListN.{length, getD}
 use Rattle.spec.specs.Limits.{depth-limit}
 use Rattle.spec.specs.Hir.{At, Expr, Place}
-use Rattle.spec.specs.Ticket.{
-  NodeWord,
-  nBool,
-  nInt,
-  nF32,
-  nF64,
-  nNull,
-  nStaticAddress,
-  nFunction,
-  nRead,
-  nUnary,
-  nBinary,
-  nFunary,
-  nFbinary,
-  nCompare,
-  nConvert,
-  nSelect,
-  nAddress,
-  nOffset,
-  nAggregate,
-  nExtract,
-  nInsert,
-  NodeLine,
-  Tables,
-  noNode,
-  nodeAt,
-  arg,
-  exprsOf,
-  exprOf,
-  exprAt,
-  placeAt,
-}
+use Rattle.spec.specs.Ticket.{NodeWord, nBool, nInt, nF32, nF64, nNull, nStaticAddress, nFunction, nRead, nUnary, nBinary, nFunary, nFbinary, nCompare, nConvert, nSelect, nAddress, nOffset, nAggregate, nExtract, nInsert, NodeLine, Tables, noNode, nodeAt, arg, exprsOf, exprOf, exprAt, placeAt}
 use Rattle.spec.specs.Forms.{between, type, Arg, Head, f-line, s-line, v-line, g-line, t-line, p-line, n-line, values}
 use Rattle.spec.specs.Read.{Reading, refusal-of, behind-type, add-line}
 use Rattle.spec.specs.Readable.{All, root}

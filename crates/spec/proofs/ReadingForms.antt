@@ -1,26 +1,11 @@
 -- The numbers of a line by the classes of its fields: what a rule asks for is what the text's reading makes.
 use Prim.Native.Nat.{ℕ}
 use mathlib.Core.Bool.{Bool, true, false}
-use mathlib.Core.List.{List, [], _∷_}
+use mathlib.Core.List.{List, _∷_}
 use mathlib.Core.Option.{Option, none, some, Option·none-ne-some as none≢some, Option·some-injective as of-some}
 use mathlib.Core.Path.{_≡_, refl, ap}
 use Rattle.spec.specs.Text.{bytes, same, number}
-use Rattle.spec.specs.Forms.{
-  Field,
-  between,
-  float-width,
-  type-part,
-  type,
-  storage,
-  place,
-  node,
-  Rule,
-  find,
-  Arg,
-  rest-args,
-  args-of,
-  values,
-}
+use Rattle.spec.specs.Forms.{Field, between, float-width, type-part, type, storage, place, node, Rule, find, Arg, rest-args, args-of, values}
 use Rattle.spec.specs.Readable.{All}
 
 -- numbers that have these fields' classes in order, and then all that one

@@ -1,82 +1,11 @@
 -- Every line that can be read has the form of its head: checked rule by rule, and carried over from the rules to the text.
 use Prim.Native.Nat.{ℕ}
-use mathlib.Core.List.{List, [], _∷_}
+use mathlib.Core.List.{List, _∷_}
 use mathlib.Core.Option.{Option, none, some, Option·none-ne-some as none≢some, Option·some-injective as of-some}
 use mathlib.Core.Path.{_≡_, refl}
 use Rattle.spec.specs.Text.{split, comma}
-use Rattle.spec.specs.Ticket.{
-  TypeWord,
-  tUnit,
-  tBool,
-  tBits,
-  tFloat,
-  tPointer,
-  tArray,
-  tStruct,
-  tTuple,
-  tOpaque,
-  PlaceWord,
-  NodeWord,
-  nBool,
-  nInt,
-  nF32,
-  nF64,
-  nNull,
-  nStaticAddress,
-  nFunction,
-  nRead,
-  nUnary,
-  nBinary,
-  nFunary,
-  nFbinary,
-  nCompare,
-  nConvert,
-  nSelect,
-  nAddress,
-  nOffset,
-  nExtract,
-  nInsert,
-  arg,
-}
-use Rattle.spec.specs.Forms.{
-  Field,
-  between,
-  type,
-  Rule,
-  type-rules,
-  place-rules,
-  node-rules,
-  kind-rules,
-  function-fields,
-  storage-fields,
-  placed-fields,
-  find,
-  Arg,
-  Head,
-  f-line,
-  s-line,
-  v-line,
-  g-line,
-  t-line,
-  p-line,
-  n-line,
-  Line,
-  args-of,
-  type-form,
-  place-form,
-  node-form,
-  Kind,
-  kF,
-  kT,
-  kS,
-  kV,
-  kG,
-  kP,
-  kN,
-  form-of,
-  lineOf,
-  values,
-}
+use Rattle.spec.specs.Ticket.{TypeWord, tUnit, tBool, tBits, tFloat, tPointer, tArray, tStruct, tTuple, tOpaque, PlaceWord, NodeWord, nBool, nInt, nF32, nF64, nNull, nStaticAddress, nFunction, nRead, nUnary, nBinary, nFunary, nFbinary, nCompare, nConvert, nSelect, nAddress, nOffset, nExtract, nInsert, arg}
+use Rattle.spec.specs.Forms.{Field, between, type, Rule, type-rules, place-rules, node-rules, kind-rules, function-fields, storage-fields, placed-fields, find, Arg, Head, f-line, s-line, v-line, g-line, t-line, p-line, n-line, Line, args-of, type-form, place-form, node-form, Kind, kF, kT, kS, kV, kG, kP, kN, form-of, lineOf, values}
 use Rattle.spec.specs.Readable.{All, type-parts, nodes-of-node, Counted}
 use Rattle.spec.proofs.ReadingForms.{Args, done, next, part-values, node-values, all-parts, all-nodes, args-formed, found}
 

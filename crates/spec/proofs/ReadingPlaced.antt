@@ -1,6 +1,6 @@
 -- Storages, variables and statics are kept right by every accepted line.
 use Prim.Native.Nat.{ℕ, _≤_}
-use mathlib.Core.Bool.{Bool, true, false, _||_}
+use mathlib.Core.Bool.{Bool, true, false}
 use mathlib.Core.List.{List}
 use mathlib.Core.Option.{none}
 use mathlib.Core.Path.{_≡_, refl}
@@ -10,20 +10,7 @@ use lib.Dec.{eqb}
 use lib.ListN.{length, length-append}
 use Rattle.spec.specs.Limits.{greatest-16, all-regions}
 use Rattle.spec.specs.Ticket.{Tables, PlacedLine, arg}
-use Rattle.spec.specs.Forms.{
-  Arg,
-  Head,
-  f-line,
-  s-line,
-  v-line,
-  g-line,
-  t-line,
-  p-line,
-  n-line,
-  storage-fields,
-  placed-fields,
-  values,
-}
+use Rattle.spec.specs.Forms.{Arg, Head, f-line, s-line, v-line, g-line, t-line, p-line, n-line, storage-fields, placed-fields, values}
 use Rattle.spec.specs.Read.{Reading, refusal-of, add-line}
 use Rattle.spec.specs.Readable.{All, StorageRight, PlacedRight}
 use Rattle.spec.proofs.ReadingLists.{All-map, All-append}

@@ -8,18 +8,7 @@ use borrow.Author.Tests.{ltb-true}
 use lib.ListN.{length, length-append}
 use Rattle.spec.specs.Limits.{type-lines, storage-lines, variable-lines, static-lines, place-lines, node-lines, greatest-16}
 use Rattle.spec.specs.Ticket.{Tables, TypeLine}
-use Rattle.spec.specs.Forms.{
-  Arg,
-  Head,
-  f-line,
-  s-line,
-  v-line,
-  g-line,
-  t-line,
-  p-line,
-  n-line,
-  function-fields,
-}
+use Rattle.spec.specs.Forms.{Arg, Head, f-line, s-line, v-line, g-line, t-line, p-line, n-line, function-fields}
 use Rattle.spec.specs.Read.{Reading, refusal-of, add-line}
 use Rattle.spec.specs.Readable.{All}
 use Rattle.spec.proofs.ReadingTests.{passed, ranged, in-range}

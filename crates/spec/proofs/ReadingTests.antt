@@ -1,34 +1,14 @@
 -- What it means that a line passes every test of reading. A test that has no name outside the definitions is written here as it stands there.
 use Prim.Native.Nat.{ℕ, _≤_}
-use mathlib.Core.Bool.{Bool, true, false, _&&_, _||_}
-use mathlib.Core.List.{List, [], _∷_}
+use mathlib.Core.Bool.{Bool, true, false, _&&_}
+use mathlib.Core.List.{List, _∷_}
 use mathlib.Core.Option.{none, Option·none-ne-some as none≢some}
 use mathlib.Core.Path.{_≡_, refl, sym}
 use borrow.Author.Tests.{leb-true}
 use lib.Dec.{ltb, leb, eqb}
 use lib.ListN.{length}
 use Rattle.spec.specs.Ticket.{Tables, arg}
-use Rattle.spec.specs.Forms.{
-  Field,
-  between,
-  float-width,
-  type-part,
-  type,
-  storage,
-  place,
-  node,
-  Arg,
-  Head,
-  f-line,
-  s-line,
-  v-line,
-  g-line,
-  t-line,
-  p-line,
-  n-line,
-  Line,
-  values,
-}
+use Rattle.spec.specs.Forms.{Field, between, float-width, type-part, type, storage, place, node, Arg, Head, f-line, s-line, v-line, g-line, t-line, p-line, n-line, Line, values}
 use Rattle.spec.specs.Read.{Test, first-failed, Reading, refusal-of}
 use Rattle.spec.specs.Readable.{All}
 use Rattle.spec.proofs.Bools.{and-left, and-right}

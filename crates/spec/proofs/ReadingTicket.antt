@@ -1,7 +1,7 @@
 -- What reading guarantees: the tables of an accepted ticket are readable.
 use Prim.Native.Nat.{ℕ, suc, _≤_}
 use mathlib.Core.Bool.{Bool, true, false}
-use mathlib.Core.List.{List, [], _∷_}
+use mathlib.Core.List.{List, _∷_}
 use mathlib.Core.Option.{Option, none, some}
 use mathlib.Core.Path.{_≡_, refl}
 use native.Mathlib.Omega.{arith}
@@ -12,22 +12,7 @@ use Rattle.spec.specs.Text.{split, line-feed}
 use Rattle.spec.specs.Limits.{text-limit}
 use Rattle.spec.specs.Ticket.{Tables}
 use Rattle.spec.specs.Forms.{Line, lineOf}
-use Rattle.spec.specs.Read.{
-  Reading,
-  refusal-of,
-  add,
-  Step,
-  stop,
-  go,
-  step,
-  refused,
-  accepted,
-  left-over,
-  at-end,
-  read-lines,
-  start,
-  read-ticket,
-}
+use Rattle.spec.specs.Read.{Reading, refusal-of, add, Step, stop, go, step, refused, accepted, left-over, at-end, read-lines, start, read-ticket}
 use Rattle.spec.specs.Readable.{All, line-sum, TypesRight, root, Readable}
 use Rattle.spec.specs.RunNeeds.{bools-in-range}
 use Rattle.spec.proofs.ReadingLines.{Formed, line-formed}

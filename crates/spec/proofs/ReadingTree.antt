@@ -1,42 +1,12 @@
 -- The expression of a node: its sum over nodes is no more than that of the lines that it is made of, where the fuel reaches as deep as the node.
 use Prim.Native.Nat.{ℕ, zero, suc, _+_, _-_, _≤_, _<_}
 use mathlib.Core.Bool.{Bool}
-use mathlib.Core.List.{List, [], _∷_}
+use mathlib.Core.List.{List, _∷_}
 use native.Mathlib.Omega.{arith}
 use lib.ListN.{length}
 use Rattle.spec.specs.Limits.{depth-limit}
 use Rattle.spec.specs.Hir.{At, Expr, Place}
-use Rattle.spec.specs.Ticket.{
-  NodeWord,
-  nBool,
-  nInt,
-  nF32,
-  nF64,
-  nNull,
-  nStaticAddress,
-  nFunction,
-  nRead,
-  nUnary,
-  nBinary,
-  nFunary,
-  nFbinary,
-  nCompare,
-  nConvert,
-  nSelect,
-  nAddress,
-  nOffset,
-  nAggregate,
-  nExtract,
-  nInsert,
-  NodeLine,
-  Tables,
-  nodeAt,
-  sum,
-  exprsOf,
-  exprOf,
-  exprAt,
-  placeAt,
-}
+use Rattle.spec.specs.Ticket.{NodeWord, nBool, nInt, nF32, nF64, nNull, nStaticAddress, nFunction, nRead, nUnary, nBinary, nFunary, nFbinary, nCompare, nConvert, nSelect, nAddress, nOffset, nAggregate, nExtract, nInsert, NodeLine, Tables, nodeAt, sum, exprsOf, exprOf, exprAt, placeAt}
 use Rattle.spec.specs.Readable.{All, nodes-of-node, line-sum, node-sum, node-sums, root}
 use Rattle.spec.proofs.ReadingLists.{All-both, below-all, sum-le}
 use Rattle.spec.proofs.ReadingPool.{refs, tree, NodesRight, Pool}

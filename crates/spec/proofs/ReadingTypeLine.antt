@@ -1,7 +1,7 @@
 -- A type line that passes the tests is right behind the types before it; the first two are bool and pointer.
 use Prim.Native.Nat.{ℕ, _≤_}
 use mathlib.Core.Bool.{Bool, true, not}
-use mathlib.Core.List.{List, [], _∷_, _++_}
+use mathlib.Core.List.{List, _∷_, _++_}
 use mathlib.Core.Option.{none}
 use mathlib.Core.Path.{_≡_, refl, ap, _∙_}
 use native.Mathlib.Omega.{arith}
@@ -9,21 +9,7 @@ use borrow.Author.Tests.{leb-true, eqb-true}
 use lib.Dec.{leb, eqb}
 use lib.ListN.{length, getD}
 use Rattle.spec.specs.Limits.{type-size-limit, type-weight-limit, type-depth-limit}
-use Rattle.spec.specs.Ticket.{
-  TypeWord,
-  tUnit,
-  tBool,
-  tBits,
-  tFloat,
-  tPointer,
-  tArray,
-  tStruct,
-  tTuple,
-  tOpaque,
-  TypeLine,
-  Tables,
-  arg,
-}
+use Rattle.spec.specs.Ticket.{TypeWord, tUnit, tBool, tBits, tFloat, tPointer, tArray, tStruct, tTuple, tOpaque, TypeLine, Tables, arg}
 use Rattle.spec.specs.Forms.{between, Arg, t-line, values}
 use Rattle.spec.specs.Read.{Reading, refusal-of, alike, size-of, weight-of, depth-of}
 use Rattle.spec.specs.Readable.{All}

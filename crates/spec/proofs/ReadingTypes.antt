@@ -1,32 +1,13 @@
 -- Type lines: what holds of each, said of earlier lines only, and so kept when a line is appended.
 use Prim.Native.Nat.{ℕ, zero, suc, _+_, _*_, _≤_, _<_}
-use mathlib.Core.List.{List, [], _∷_, _++_}
+use mathlib.Core.List.{List, _∷_, _++_}
 use mathlib.Core.Path.{_≡_, refl, sym, ap, _∙_}
 use native.Mathlib.Omega.{arith}
 use native.Mathlib.Decide.{decLt}
 use lib.ListN.{length, getD, List·getD-append, List·getD-eq-default, length-append}
 use lib.Seq.{getD-append-seam}
 use Rattle.spec.specs.Limits.{type-size-limit, type-weight-limit, type-depth-limit}
-use Rattle.spec.specs.Ticket.{
-  TypeWord,
-  tUnit,
-  tBool,
-  tBits,
-  tFloat,
-  tPointer,
-  tArray,
-  tStruct,
-  tTuple,
-  tOpaque,
-  TypeLine,
-  Tables,
-  noType,
-  typeAt,
-  arg,
-  type-size-by,
-  weight-by,
-  type-size-in,
-}
+use Rattle.spec.specs.Ticket.{TypeWord, tUnit, tBool, tBits, tFloat, tPointer, tArray, tStruct, tTuple, tOpaque, TypeLine, Tables, noType, typeAt, arg, type-size-by, weight-by, type-size-in}
 use Rattle.spec.specs.Readable.{All, All-below, type-parts, Counted}
 use Rattle.spec.proofs.ReadingLists.{All-map, All-both, below-all, sum-same}
 

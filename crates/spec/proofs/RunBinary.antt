@@ -1,7 +1,7 @@
 -- THE STEP of the nineteen binary operators, at every width.
 use Prim.Native.Nat.{ℕ, suc, _%_, _^_, _<_}
 use mathlib.Core.Bool.{Bool, true, false}
-use mathlib.Core.List.{List, [], _∷_}
+use mathlib.Core.List.{List, _∷_}
 use mathlib.Core.Option.{Option, none, some}
 use mathlib.Core.Path.{_≡_, refl, sym, ap, _∙_}
 use native.Mathlib.Omega.{arith}
@@ -12,34 +12,11 @@ use lib.ListN.{length}
 use Rattle.spec.specs.Hir.{IntegerBinaryOp}
 use Rattle.spec.specs.Hir as hir
 use Rattle.spec.specs.Ticket.{Tables}
-use Rattle.spec.specs.Lir.{
-  ByteOperand,
-  ByteBinaryOp,
-  RotateDirection,
-  ShiftOp,
-  IntegerBinaryBytesOp,
-  InstructionKind,
-  add,
-  subtract,
-  shift-bytes,
-  value,
-  bytes-value,
-}
-use Rattle.spec.specs.Lir as lir
+use Rattle.spec.specs.Lir.{ByteOperand, ByteBinaryOp, RotateDirection, ShiftOp, IntegerBinaryBytesOp, InstructionKind, add, subtract, shift-bytes, value, bytes-value}
 use Rattle.spec.specs.Operands.{value-bytes, all-immediate, lowest-byte}
 use Rattle.spec.specs.Allocation.{bytes-from}
 use Rattle.spec.specs.Operators.{BinaryForm, adding, subtracting, bytewise, shifting, whole, binary-form, rotate-direction}
-use Rattle.spec.specs.Arithmetic.{
-  adds,
-  subtracts,
-  first-storage,
-  first-operand,
-  byte-rotates,
-  byte-rotate,
-  shifts,
-  binary-instructions,
-  lower-integer-binary,
-}
+use Rattle.spec.specs.Arithmetic.{adds, subtracts, first-storage, first-operand, byte-rotates, byte-rotate, shifts, binary-instructions, lower-integer-binary}
 use Rattle.numerics.specs.Numerics.{iadd, isub, iand, ior, ixor}
 use Rattle.spec.specs.Machine.{Memory, Given, bytes-of, byte-op, distance, shift-op, binary-op, defined, effect}
 use Rattle.spec.specs.Eval.{number, binary-numeric}

@@ -1,7 +1,7 @@
 -- THE STEP of the conversions between bits, bool and pointer, and of a condition, at every width.
 use Prim.Native.Nat.{ℕ, zero, suc, _+_, _-_, _*_, _/_, _%_, _^_, _≤_, _<_}
 use mathlib.Core.Bool.{Bool, true, false, not}
-use mathlib.Core.List.{List, [], _∷_}
+use mathlib.Core.List.{List, _∷_}
 use mathlib.Core.Path.{_≡_, refl, sym, ap, _∙_}
 use native.Mathlib.Omega.{arith}
 use native.Mathlib.Nat.{le-refl, le-trans, zero-mod}
@@ -15,17 +15,7 @@ use Rattle.spec.specs.Monad.{emits}
 use Rattle.spec.specs.Operands.{value-bytes, value-bit, value-type, value-repr, resize}
 use Rattle.spec.specs.Allocation.{type-size, odd-bits, bytes-from, bytes-at}
 use Rattle.spec.specs.Arithmetic.{zip2}
-use Rattle.spec.specs.Conversions.{
-  bit-to-bytes,
-  not-zero,
-  value-as-bit,
-  normalized-bytes,
-  resized,
-  sign-extended,
-  boolean-to-integer,
-  integer-to-bool,
-  reinterpreted,
-}
+use Rattle.spec.specs.Conversions.{bit-to-bytes, not-zero, value-as-bit, normalized-bytes, resized, sign-extended, boolean-to-integer, integer-to-bool, reinterpreted}
 use Rattle.numerics.specs.Numerics.{ine, wrap, extend-s}
 use Rattle.spec.specs.Machine.{Memory, Given, bytes-of, bit-of, set-bit, set-byte, compare-op, defined, effect}
 use Rattle.spec.specs.Eval.{Data, flag, number}
@@ -35,25 +25,7 @@ use Rattle.spec.proofs.RunLaws.{room-le, extend-wrap}
 use Rattle.spec.proofs.RunBounds.{wrap-lt, extend-lt, truth-lt}
 use Rattle.spec.proofs.RunRuns.{effects, Total, no-more, and-then, total-zip, total-map}
 use Rattle.spec.proofs.Lengths.{length-bytes-from}
-use Rattle.spec.proofs.RunFrames.{
-  Agree,
-  agree-refl,
-  agree-bit,
-  bit-here,
-  agree-byte,
-  Fixed,
-  fixed-stored,
-  Left,
-  left-cons,
-  set-bytes-left,
-  set-here,
-  at,
-  copy-loop,
-  zeros-run,
-  zeros-le,
-  resize-run,
-  zip2-zip3,
-}
+use Rattle.spec.proofs.RunFrames.{Agree, agree-refl, agree-bit, bit-here, agree-byte, Fixed, fixed-stored, Left, left-cons, set-bytes-left, set-here, at, copy-loop, zeros-run, zeros-le, resize-run, zip2-zip3}
 use Rattle.spec.proofs.RunHoare.{From, _then_, _next_, ending, Is, allocates-bit, emitting, emitting-one, purely, got, at-it, requiring}
 use Rattle.spec.proofs.RunTyping.{IsBits, Has, has-bits, has-bool}
 use Rattle.spec.proofs.RunValues.{FixedBit, Word, Denotes, of-bytes, Gives, here, sets}

@@ -1,7 +1,7 @@
 -- What a run leaves as it was, and what it writes.
 use Prim.Native.Nat.{ℕ, zero, suc, _+_, _≤_, _<_}
 use mathlib.Core.Bool.{Bool, true, false, cond}
-use mathlib.Core.List.{List, [], _∷_, map}
+use mathlib.Core.List.{List, _∷_, map}
 use mathlib.Core.Option.{Option, none, some}
 use mathlib.Core.Logic.{_≢_}
 use mathlib.Core.Path.{_≡_, refl, ap, ap₂, _∙_}
@@ -10,20 +10,7 @@ use native.Mathlib.Nat.{le-trans}
 use lib.Dec.{eqb}
 use borrow.Author.Tests.{ne-eqb, eq-eqb}
 use lib.ListN.{length, replicate}
-use Rattle.spec.specs.Lir.{
-  InstructionKind,
-  ByteStorage,
-  ByteOperand,
-  immediate,
-  stored,
-  add,
-  subtract,
-  byte-binary,
-  not-byte,
-  copy-byte,
-  ByteBinaryOp,
-  RotateDirection,
-}
+use Rattle.spec.specs.Lir.{InstructionKind, ByteStorage, ByteOperand, immediate, stored, add, subtract, byte-binary, not-byte, copy-byte, ByteBinaryOp, RotateDirection}
 use Rattle.spec.specs.Operands.{resize}
 use Rattle.spec.specs.Allocation.{bytes-from}
 use Rattle.spec.specs.Arithmetic.{zip2, zip3, masks, carry-in, carry-out, rotates}

@@ -9,28 +9,7 @@ use lib.IntN.{ℤ, pos, negsuc}
 use Rattle.spec.specs.Lir.{ByteBinaryOp}
 use Rattle.numerics.specs.Numerics.{signed, unsigned, iadd, isub, ineg, inot, extend-s}
 use Rattle.spec.specs.Machine.{bytes-of, byte-op}
-use Rattle.spec.proofs.RunWords.{
-  pow-256,
-  size,
-  ripple,
-  ripple-bytes,
-  masked,
-  mask-last,
-  adding,
-  subtracting,
-  Subtracting,
-  bitwise,
-  inverting,
-  add-low,
-  add-out,
-  sub-low,
-  sub-out,
-  bitwise-low,
-  not-low,
-  same,
-  Ripples,
-  byte-op-mod,
-}
+use Rattle.spec.proofs.RunWords.{pow-256, size, ripple, ripple-bytes, masked, mask-last, adding, subtracting, Subtracting, bitwise, inverting, add-low, add-out, sub-low, sub-out, bitwise-low, not-low, same, Ripples, byte-op-mod}
 
 -- the bytes of a type hold its numbers: 256 ^ size w is 2 ^ w times a power
 pub room : (w : ℕ) → 256 ^ size w ≡ 2 ^ w * suc (2 ^ (8 * size w - w) - 1)

@@ -1,7 +1,7 @@
 -- Each kind of expression over operands that are lowered rightly: what an accepted lowering leaves is what the expression means.
 use Prim.Native.Nat.{ℕ, zero, suc, _/_, _%_, _^_, _≤_, _<_}
 use mathlib.Core.Bool.{Bool, true}
-use mathlib.Core.List.{List, [], _∷_}
+use mathlib.Core.List.{List, _∷_}
 use mathlib.Core.Option.{Option, none, some, Option·none-ne-some, Option·some-injective as of-some}
 use mathlib.Core.Path.{_≡_, refl, sym, ap, _∙_}
 use native.Mathlib.Omega.{arith}
@@ -10,24 +10,7 @@ use lib.Dec.{leb}
 use borrow.Author.Tests.{eqb-true, leb-true, ltb-true}
 use lib.ListN.{length}
 use Rattle.spec.specs.Limits.{type-depth-limit}
-use Rattle.spec.specs.Hir.{
-  At,
-  Expr,
-  boolean,
-  integer,
-  null-pointer,
-  static-address,
-  function-address,
-  read,
-  integer-unary,
-  integer-binary,
-  compare,
-  address-of,
-  Place,
-  IntegerUnaryOp,
-  IntegerBinaryOp,
-  CompareOp,
-}
+use Rattle.spec.specs.Hir.{At, Expr, boolean, integer, null-pointer, static-address, function-address, read, integer-unary, integer-binary, compare, address-of, Place, IntegerUnaryOp, IntegerBinaryOp, CompareOp}
 use Rattle.spec.specs.Ticket.{Tables}
 use Rattle.spec.specs.Readable.{TypesRight}
 use Rattle.spec.specs.Lir.{immediate, value, bytes-value}
@@ -36,20 +19,7 @@ use Rattle.spec.specs.Allocation.{type-size}
 use Rattle.spec.specs.Lower.{lower-integer, lower-expression}
 use Rattle.spec.specs.Machine.{Memory, Proper, Given, bytes-of, operands}
 use Rattle.spec.specs.Typed.{type-of, width, typed}
-use Rattle.spec.specs.Eval.{
-  Data,
-  flag,
-  number,
-  number-in,
-  binary-numeric,
-  compare-numeric,
-  eval,
-  based,
-  read-data,
-  read-inside,
-  fits,
-  in-order,
-}
+use Rattle.spec.specs.Eval.{Data, flag, number, number-in, binary-numeric, compare-numeric, eval, based, read-data, read-inside, fits, in-order}
 use Rattle.spec.proofs.RunLogic.{both}
 use Rattle.spec.proofs.RunWords.{size}
 use Rattle.spec.proofs.RunFrames.{Agree, agree-trans}

@@ -1,7 +1,7 @@
 -- Places: resolving one appends nothing, and its answer is the ticket's alone. Reading from it.
 use Prim.Native.Nat.{ℕ, _≤_, _<_}
 use mathlib.Core.Bool.{Bool, true, false}
-use mathlib.Core.List.{List, [], _++_}
+use mathlib.Core.List.{List, _++_}
 use mathlib.Core.Option.{Option, none, some, Option·none-ne-some}
 use mathlib.Core.Path.{_≡_, refl, sym, ap₂, _∙_}
 use native.Mathlib.Omega.{arith}
@@ -16,19 +16,7 @@ use Rattle.spec.specs.Readable.{TypesRight}
 use Rattle.spec.specs.Lir.{Instruction}
 use Rattle.spec.specs.Monad.{Lower, Outcome, refused, done, Out, Counters, _>>=_, _>>_, bind-to, prepend, pure, or-refuse, require}
 use Rattle.spec.specs.Allocation.{Location}
-use Rattle.spec.specs.Places.{
-  Base,
-  within,
-  field-offset,
-  element-offset,
-  base-of,
-  part-of,
-  opaque-rest,
-  resolve-place-base,
-  with-type,
-  location-in,
-  resolve-place,
-}
+use Rattle.spec.specs.Places.{Base, within, field-offset, element-offset, base-of, part-of, opaque-rest, resolve-place-base, with-type, location-in, resolve-place}
 use Rattle.spec.specs.ReadBytes.{read-location}
 use Rattle.spec.specs.Lower.{lower-read}
 use Rattle.spec.specs.Machine.{Memory, Proper, Given}

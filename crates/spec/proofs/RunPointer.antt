@@ -1,7 +1,7 @@
 -- THE STEP of addresses, functions' numbers, and a pointer plus an offset.
 use Prim.Native.Nat.{ℕ, zero, suc, _+_, _/_, _%_, _≤_}
 use mathlib.Core.Bool.{Bool, true, false, not}
-use mathlib.Core.List.{List, [], _∷_}
+use mathlib.Core.List.{List, _∷_}
 use mathlib.Core.Option.{some}
 use mathlib.Core.Path.{_≡_, refl, sym, ap, _∙_}
 use native.Mathlib.Omega.{arith}
@@ -17,34 +17,14 @@ use Rattle.spec.specs.Allocation.{type-size, bytes-from, bytes-at, locat
 use Rattle.spec.specs.Places.{Base, is-one}
 use Rattle.spec.specs.ReadBytes.{read-plain, read-word, read-bytes-as-type, read-location}
 use Rattle.spec.specs.Arithmetic.{adds, first-storage}
-use Rattle.spec.specs.Select.{
-  second-storage,
-  require-addressable,
-  materialize-location-address,
-  lower-address-of,
-  lower-static-address,
-  lower-function-address,
-  lower-pointer-offset,
-}
+use Rattle.spec.specs.Select.{second-storage, require-addressable, materialize-location-address, lower-address-of, lower-static-address, lower-function-address, lower-pointer-offset}
 use Rattle.spec.specs.Machine.{Memory, Given, bytes-of, operand, operands, set-byte, defined, effect}
 use Rattle.spec.specs.Eval.{number, based}
 use Rattle.spec.proofs.RunWords.{length-bytes-of, bytes-of-mod, ripple-bytes, adding, resized, size}
 use Rattle.spec.proofs.RunLaws.{room-le}
 use Rattle.spec.proofs.RunRuns.{total-zip}
 use Rattle.spec.proofs.Lengths.{length-bytes-from}
-use Rattle.spec.proofs.RunFrames.{
-  agree-refl,
-  agree-byte,
-  fixed-stored,
-  Left,
-  left-cons,
-  set-beside,
-  set-here,
-  at,
-  loop-run,
-  add-loop,
-  resize-run,
-}
+use Rattle.spec.proofs.RunFrames.{agree-refl, agree-byte, fixed-stored, Left, left-cons, set-beside, set-here, at, loop-run, add-loop, resize-run}
 use Rattle.spec.proofs.RunHoare.{From, _then_, _next_, ending, Is, it, emitting, emitting-one, purely, got, at-it, requiring, allocates-carry}
 use Rattle.spec.proofs.RunTyping.{has-pointer, pointer-size}
 use Rattle.spec.proofs.RunValues.{Word, of-bytes, Gives}

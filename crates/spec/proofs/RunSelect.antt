@@ -1,7 +1,7 @@
 -- THE STEP of select, of any type: the pieces are chosen one by one, and read back as the type.
 use Prim.Native.Nat.{ℕ, zero, suc, _≤_}
 use mathlib.Core.Bool.{Bool, true, false, _&&_}
-use mathlib.Core.List.{List, [], _∷_, _++_, map}
+use mathlib.Core.List.{List, _∷_, _++_, map}
 use mathlib.Core.Path.{_≡_, refl, sym, ap, ap₂, _∙_}
 use native.Mathlib.Omega.{arith}
 use native.Mathlib.Nat.{le-refl, le-trans}
@@ -10,24 +10,7 @@ use lib.ListN.{length}
 use Rattle.spec.specs.Limits.{type-depth-limit}
 use Rattle.spec.specs.Ticket.{Tables, typeAt}
 use Rattle.spec.specs.Readable.{TypesRight}
-use Rattle.spec.specs.Lir.{
-  Value,
-  value,
-  Repr,
-  Values,
-  ByteOperand,
-  BitOperand,
-  ValueOperand,
-  bit-operand,
-  byte-operand,
-  bit-storage,
-  byte-storage,
-  flatten-repr,
-  flatten-values,
-  flatten-value-operands,
-  select-byte,
-  select-bit,
-}
+use Rattle.spec.specs.Lir.{Value, value, Repr, Values, ByteOperand, BitOperand, ValueOperand, bit-operand, byte-operand, bit-storage, byte-storage, flatten-repr, flatten-values, flatten-value-operands, select-byte, select-bit}
 use Rattle.spec.specs.Operands.{value-type, value-repr}
 use Rattle.spec.specs.Allocation.{type-size, allocate-temporary, bytes-from, bytes-at, location-value-storages}
 use Rattle.spec.specs.ReadBytes.{read-location}
@@ -35,23 +18,7 @@ use Rattle.spec.specs.Select.{select-piece, select-pieces, select-to-loc
 use Rattle.spec.specs.Machine.{Memory, Given, operand, operands, bit-of, pick, set-byte, set-bit, defined, effect}
 use Rattle.spec.specs.Eval.{Data, flag, Datas, number-in}
 use Rattle.spec.proofs.RunFrames.{Agree, agree-refl, agree-trans, agree-byte, Left, left-cons, set-beside, set-here, at, heads, tails, nil-cons}
-use Rattle.spec.proofs.RunHoare.{
-  From,
-  After,
-  _then_,
-  _next_,
-  weaken,
-  ending,
-  Is,
-  emitting-one,
-  purely,
-  got,
-  at-it,
-  requiring,
-  allocates,
-  refused-first,
-  never,
-}
+use Rattle.spec.proofs.RunHoare.{From, After, _then_, _next_, weaken, ending, Is, emitting-one, purely, got, at-it, requiring, allocates, refused-first, never}
 use Rattle.spec.proofs.RunTyping.{Has, flag-data, image, images, has-size}
 use Rattle.spec.proofs.RunValues.{FixedBit, Denotes, of-unit, of-bit, of-bytes, of-parts, DenoteAll, of-none, of-more, Gives, sets}
 use Rattle.spec.proofs.RunSteps.{at-next, temporary-at}

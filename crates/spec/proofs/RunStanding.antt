@@ -1,7 +1,7 @@
 -- What stands in a storage: what the meaning reads from a memory, and data written byte by byte.
 use Prim.Native.Nat.{ℕ, zero, suc, _+_, _*_, _/_, _%_, _^_, _<_}
 use mathlib.Core.Bool.{Bool, true, not, _&&_}
-use mathlib.Core.List.{List, [], _∷_, _++_, map}
+use mathlib.Core.List.{List, _∷_, _++_, map}
 use mathlib.Core.Path.{_≡_, refl, ap, ap₂, _∙_}
 use native.Mathlib.Omega.{arith}
 use native.Mathlib.Nat.{pow-suc}
@@ -18,40 +18,8 @@ use Rattle.spec.specs.Eval.{Data, Datas, no-data, part, number-in, plain
 use Rattle.spec.proofs.RunLogic.{both}
 use Rattle.spec.proofs.RunWords.{length-bytes-of}
 use Rattle.spec.proofs.RunFrames.{heads, tails}
-use Rattle.spec.proofs.RunTyping.{
-  Plain,
-  plain-bits,
-  plain-pointer,
-  plain-opaque,
-  Has,
-  has-unit,
-  has-bool,
-  has-number,
-  has-array,
-  has-struct,
-  has-tuple,
-  HasAll,
-  has-none,
-  has-more,
-  by-word,
-  image,
-  images,
-  has-size,
-}
-use Rattle.spec.proofs.RunReading.{
-  Stands,
-  StandAll,
-  too-deep,
-  as-float,
-  as-unit,
-  as-bool,
-  as-number,
-  as-array,
-  as-struct,
-  as-tuple,
-  stand-none,
-  stand-more,
-}
+use Rattle.spec.proofs.RunTyping.{Plain, plain-bits, plain-pointer, plain-opaque, Has, has-unit, has-bool, has-number, has-array, has-struct, has-tuple, HasAll, has-none, has-more, by-word, image, images, has-size}
+use Rattle.spec.proofs.RunReading.{Stands, StandAll, too-deep, as-float, as-unit, as-bool, as-number, as-array, as-struct, as-tuple, stand-none, stand-more}
 
 -- ---------------------------------------------------------------- from a memory
 

@@ -1,6 +1,6 @@
 -- The whole expression: an accepted, rightly typed expression, run, leaves older storages as they were and its meaning in the value's pieces.
 use Prim.Native.Nat.{ℕ, suc, _+_, _≤_}
-use mathlib.Core.Bool.{Bool, true, false, not, _||_}
+use mathlib.Core.Bool.{Bool, true, false, not}
 use mathlib.Core.Option.{some, Option·some-injective as of-some}
 use mathlib.Core.Path.{_≡_, refl, sym, ap, _∙_}
 use native.Mathlib.Omega.{arith}
@@ -8,34 +8,7 @@ use native.Mathlib.Nat.{le-trans}
 use lib.Dec.{eqb}
 use borrow.Author.Tests.{eqb-true}
 use lib.ListN.{length}
-use Rattle.spec.specs.Hir.{
-  At,
-  Expr,
-  boolean,
-  integer,
-  float32,
-  float64,
-  null-pointer,
-  static-address,
-  function-address,
-  read,
-  integer-unary,
-  integer-binary,
-  float-unary,
-  float-binary,
-  compare,
-  convert,
-  select,
-  address-of,
-  pointer-offset,
-  aggregate,
-  extract-element,
-  insert-element,
-  Exprs,
-  no-exprs,
-  _∷ᵉ_,
-  ConversionOp,
-}
+use Rattle.spec.specs.Hir.{At, Expr, boolean, integer, float32, float64, null-pointer, static-address, function-address, read, integer-unary, integer-binary, float-unary, float-binary, compare, convert, select, address-of, pointer-offset, aggregate, extract-element, insert-element, Exprs, no-exprs, _∷ᵉ_, ConversionOp}
 use Rattle.spec.specs.Ticket.{Tables, typeAt}
 use Rattle.spec.specs.Readable.{TypesRight}
 use Rattle.spec.specs.Lir.{BitOperand, Value}
@@ -57,21 +30,7 @@ use Rattle.spec.proofs.RunSelect.{select-step}
 use Rattle.spec.proofs.RunParts.{types-of, type-is, parts-of, part-type-is, have-parts, part-typed, all-typed, extract-step, insert-step}
 use Rattle.spec.proofs.RunAfters.{number-after, pointer-after, flag-after, retyped}
 use Rattle.spec.proofs.RunConverting.{conversion-step}
-use Rattle.spec.proofs.RunOperations.{
-  found,
-  found-map,
-  Lowers,
-  boolean-case,
-  integer-case,
-  null-case,
-  static-case,
-  function-case,
-  address-case,
-  read-case,
-  unary-case,
-  binary-case,
-  compare-case,
-}
+use Rattle.spec.proofs.RunOperations.{found, found-map, Lowers, boolean-case, integer-case, null-case, static-case, function-case, address-case, read-case, unary-case, binary-case, compare-case}
 
 -- whether x is 0 is whether y is
 pub record Decides (G : Given) (T : Tables) (n : ℕ) (M : Memory) (y : ℕ) (b : BitOperand) (n′ : ℕ) (M′ : Memory) : Type 0 where

@@ -1,7 +1,7 @@
 -- What demands 2 and 3 say of the bytes left in the buffer, for every text and every lent buffer.
 use Prim.Native.Nat.{ℕ, suc, _+_, _*_, _≤_, _<_}
 use mathlib.Core.Bool.{Bool, true, false, _&&_}
-use mathlib.Core.List.{List, [], _∷_}
+use mathlib.Core.List.{List, _∷_}
 use mathlib.Core.Option.{Option, none, some}
 use mathlib.Core.Path.{_≡_}
 use lib.Dec.{eqb, ltb}
@@ -11,31 +11,7 @@ use Rattle.spec.specs.Ticket.{Tables, type-size-in}
 use Rattle.spec.specs.Readable.{line-sum, root}
 use Rattle.spec.specs.Read.{read-ticket}
 use Rattle.spec.specs.Read as reading
-use Rattle.spec.specs.Lir.{
-  ByteStorage,
-  StorageKind,
-  Storage,
-  InstructionKind,
-  Instruction,
-  Listing,
-  copy-byte,
-  not-byte,
-  byte-binary,
-  add,
-  subtract,
-  rotate,
-  address-of,
-  function-address,
-  shift-bytes,
-  compare-bytes,
-  select-byte,
-  select-bit,
-  bit-to-byte,
-  byte-to-bit,
-  sign-extend,
-  integer-unary-bytes,
-  integer-binary-bytes,
-}
+use Rattle.spec.specs.Lir.{ByteStorage, StorageKind, Storage, InstructionKind, Instruction, Listing, copy-byte, not-byte, byte-binary, add, subtract, rotate, address-of, function-address, shift-bytes, compare-bytes, select-byte, select-bit, bit-to-byte, byte-to-bit, sign-extend, integer-unary-bytes, integer-binary-bytes}
 use Rattle.spec.specs.Lir as lir
 use Rattle.spec.specs.ReadBack.{read-listing}
 use Rattle.spec.specs.Machine.{Memory, Proper, Given, run}

@@ -1,102 +1,14 @@
 -- What an expression means in a memory, by the WebAssembly numerics; what a lowered value's pieces hold; and when reads are in order.
 use Prim.Native.Nat.{ℕ, zero, suc, _+_, _%_, _^_}
 use mathlib.Core.Bool.{Bool, true, false, _&&_, not}
-use mathlib.Core.List.{List, [], _∷_, map}
+use mathlib.Core.List.{List, _∷_, map}
 use mathlib.Core.Option.{Option, none, some}
 use lib.Dec.{eqb, leb, ltb}
-use Rattle.numerics.specs.Numerics.{
-  truth,
-  iadd,
-  isub,
-  imul,
-  idiv-u,
-  idiv-s,
-  irem-u,
-  irem-s,
-  iand,
-  ior,
-  ixor,
-  inot,
-  ineg,
-  ishl,
-  ishr-u,
-  ishr-s,
-  irotl,
-  irotr,
-  iclz,
-  ictz,
-  ipopcnt,
-  ieq,
-  ine,
-  ilt-u,
-  ilt-s,
-  igt-u,
-  igt-s,
-  ile-u,
-  ile-s,
-  ige-u,
-  ige-s,
-  wrap,
-  extend-u,
-  extend-s,
-  iadd-sat-u,
-  iadd-sat-s,
-  isub-sat-u,
-  isub-sat-s,
-}
+use Rattle.numerics.specs.Numerics.{truth, iadd, isub, imul, idiv-u, idiv-s, irem-u, irem-s, iand, ior, ixor, inot, ineg, ishl, ishr-u, ishr-s, irotl, irotr, iclz, ictz, ipopcnt, ieq, ine, ilt-u, ilt-s, igt-u, igt-s, ile-u, ile-s, ige-u, ige-s, wrap, extend-u, extend-s, iadd-sat-u, iadd-sat-s, isub-sat-u, isub-sat-s}
 use Rattle.spec.specs.Limits.{type-depth-limit}
-use Rattle.spec.specs.Hir.{
-  Expr,
-  boolean,
-  integer,
-  float32,
-  float64,
-  null-pointer,
-  static-address,
-  function-address,
-  read,
-  integer-unary,
-  integer-binary,
-  float-unary,
-  float-binary,
-  compare,
-  convert,
-  select,
-  address-of,
-  pointer-offset,
-  aggregate,
-  extract-element,
-  insert-element,
-  Exprs,
-  no-exprs,
-  _∷ᵉ_,
-  Place,
-  IntegerUnaryOp,
-  IntegerBinaryOp,
-  CompareOp,
-  ConversionOp,
-  signed,
-  unsigned,
-}
+use Rattle.spec.specs.Hir.{Expr, boolean, integer, float32, float64, null-pointer, static-address, function-address, read, integer-unary, integer-binary, float-unary, float-binary, compare, convert, select, address-of, pointer-offset, aggregate, extract-element, insert-element, Exprs, no-exprs, _∷ᵉ_, Place, IntegerUnaryOp, IntegerBinaryOp, CompareOp, ConversionOp, signed, unsigned}
 use Rattle.spec.specs.Hir as hir
-use Rattle.spec.specs.Ticket.{
-  TypeWord,
-  tUnit,
-  tBool,
-  tBits,
-  tFloat,
-  tPointer,
-  tArray,
-  tStruct,
-  tTuple,
-  tOpaque,
-  StorageLine,
-  Tables,
-  typeAt,
-  storageAt,
-  arg,
-  nowhere,
-}
+use Rattle.spec.specs.Ticket.{TypeWord, tUnit, tBool, tBits, tFloat, tPointer, tArray, tStruct, tTuple, tOpaque, StorageLine, Tables, typeAt, storageAt, arg, nowhere}
 use Rattle.spec.specs.Lir.{stored, ByteOperand, Value, value, Repr, unit, bit-value, bytes-value, Values, no-values, _∷ᵛ_}
 use Rattle.spec.specs.Lir as lir
 use Rattle.spec.specs.Monad.{Outcome, refused, done, Counters}

@@ -1,5 +1,5 @@
 -- Document 01's limits, each named once.
-use Prim.Native.Nat.{ℕ, _-_}
+use Prim.Native.Nat.{ℕ}
 
 -- 1: bytes of a text
 abbrev pub text-limit : ℕ

@@ -1,78 +1,13 @@
 -- Document 01, 'Meanings when run': memory, what one instruction does, a run.
 use Prim.Native.Nat.{ℕ, zero, suc, _+_, _-_, _*_, _/_, _%_, _^_, _<_, _≤_}
 use mathlib.Core.Bool.{Bool, true, false, _&&_, not}
-use mathlib.Core.List.{List, [], _∷_}
+use mathlib.Core.List.{List, _∷_}
 use mathlib.Core.Option.{Option, none, some}
 use lib.Dec.{eqb, ltb}
 use lib.Bits.{bitAnd, bitOr, bitXor}
 use lib.ListN.{length}
-use Rattle.numerics.specs.Numerics.{
-  truth,
-  imul,
-  idiv-u,
-  idiv-s,
-  irem-u,
-  irem-s,
-  iadd-sat-u,
-  iadd-sat-s,
-  isub-sat-u,
-  isub-sat-s,
-  ishl,
-  ishr-u,
-  ishr-s,
-  irotl,
-  irotr,
-  iclz,
-  ictz,
-  ipopcnt,
-  ieq,
-  ine,
-  ilt-u,
-  ilt-s,
-  igt-u,
-  igt-s,
-  ile-u,
-  ile-s,
-  ige-u,
-  ige-s,
-  extend-s,
-}
-use Rattle.spec.specs.Lir.{
-  ByteStorage,
-  ByteOperand,
-  immediate,
-  stored,
-  BitOperand,
-  constant,
-  stored-bit,
-  ByteBinaryOp,
-  RotateDirection,
-  left,
-  right,
-  ShiftOp,
-  CompareOp,
-  IntegerUnaryBytesOp,
-  IntegerBinaryBytesOp,
-  InstructionKind,
-  Instruction,
-  copy-byte,
-  not-byte,
-  byte-binary,
-  add,
-  subtract,
-  rotate,
-  address-of,
-  function-address,
-  shift-bytes,
-  compare-bytes,
-  select-byte,
-  select-bit,
-  bit-to-byte,
-  byte-to-bit,
-  sign-extend,
-  integer-unary-bytes,
-  integer-binary-bytes,
-}
+use Rattle.numerics.specs.Numerics.{truth, imul, idiv-u, idiv-s, irem-u, irem-s, iadd-sat-u, iadd-sat-s, isub-sat-u, isub-sat-s, ishl, ishr-u, ishr-s, irotl, irotr, iclz, ictz, ipopcnt, ieq, ine, ilt-u, ilt-s, igt-u, igt-s, ile-u, ile-s, ige-u, ige-s, extend-s}
+use Rattle.spec.specs.Lir.{ByteStorage, ByteOperand, immediate, stored, BitOperand, constant, stored-bit, ByteBinaryOp, RotateDirection, left, right, ShiftOp, CompareOp, IntegerUnaryBytesOp, IntegerBinaryBytesOp, InstructionKind, Instruction, copy-byte, not-byte, byte-binary, add, subtract, rotate, address-of, function-address, shift-bytes, compare-bytes, select-byte, select-bit, bit-to-byte, byte-to-bit, sign-extend, integer-unary-bytes, integer-binary-bytes}
 use Rattle.spec.specs.Lir as lir
 
 -- ---------------------------------------------------------------- bytes and numbers

@@ -1,75 +1,15 @@
 -- Reading a ticket (document 01, 'Ticket' and the reading rows of the refusal table): each refusal a test, in the table's order,
 -- and the tables that accepted lines build.
 use Prim.Native.Nat.{ℕ, zero, suc, _+_, max, min}
-use mathlib.Core.Bool.{Bool, true, false, _&&_, _||_, not}
-use mathlib.Core.List.{List, [], _∷_, _++_}
+use mathlib.Core.Bool.{Bool, true, false, _&&_, not}
+use mathlib.Core.List.{List, _∷_, _++_}
 use mathlib.Core.Option.{Option, none, some}
 use lib.Dec.{eqb, leb, ltb}
 use lib.ListN.{length, getD, set}
 use Rattle.spec.specs.Text.{same, split, line-feed}
-use Rattle.spec.specs.Limits.{
-  text-limit,
-  type-lines,
-  storage-lines,
-  variable-lines,
-  static-lines,
-  place-lines,
-  node-lines,
-  type-size-limit,
-  type-weight-limit,
-  depth-limit,
-  type-depth-limit,
-  size-sum-limit,
-  weight-sum-limit,
-}
-use Rattle.spec.specs.Ticket.{
-  TypeWord,
-  tUnit,
-  tBool,
-  tBits,
-  tFloat,
-  tPointer,
-  tArray,
-  tStruct,
-  tTuple,
-  tOpaque,
-  PlaceWord,
-  NodeWord,
-  TypeLine,
-  StorageLine,
-  PlacedLine,
-  PlaceLine,
-  NodeLine,
-  Tables,
-  typeAt,
-  placeLineAt,
-  nodeAt,
-  arg,
-  type-size-by,
-  weight-by,
-}
-use Rattle.spec.specs.Forms.{
-  Field,
-  between,
-  float-width,
-  type-part,
-  type,
-  storage,
-  place,
-  node,
-  Arg,
-  Head,
-  f-line,
-  s-line,
-  v-line,
-  g-line,
-  t-line,
-  p-line,
-  n-line,
-  Line,
-  lineOf,
-  values,
-}
+use Rattle.spec.specs.Limits.{text-limit, type-lines, storage-lines, variable-lines, static-lines, place-lines, node-lines, type-size-limit, type-weight-limit, depth-limit, type-depth-limit, size-sum-limit, weight-sum-limit}
+use Rattle.spec.specs.Ticket.{TypeWord, tUnit, tBool, tBits, tFloat, tPointer, tArray, tStruct, tTuple, tOpaque, PlaceWord, NodeWord, TypeLine, StorageLine, PlacedLine, PlaceLine, NodeLine, Tables, typeAt, placeLineAt, nodeAt, arg, type-size-by, weight-by}
+use Rattle.spec.specs.Forms.{Field, between, float-width, type-part, type, storage, place, node, Arg, Head, f-line, s-line, v-line, g-line, t-line, p-line, n-line, Line, lineOf, values}
 
 -- ---------------------------------------------------------------- the state of reading
 

@@ -1,93 +1,11 @@
 -- What reading guarantees of the tables of a ticket that it accepts: what lowering, cost and running lean on.
 use Prim.Native.Nat.{ℕ, _+_, _-_, _≤_, _<_}
-use mathlib.Core.List.{List, [], _∷_}
+use mathlib.Core.List.{List, _∷_}
 use mathlib.Core.Path.{_≡_}
 use lib.ListN.{length}
-use Rattle.spec.specs.Limits.{
-  type-lines,
-  storage-lines,
-  variable-lines,
-  static-lines,
-  place-lines,
-  node-lines,
-  greatest-16,
-  all-regions,
-  type-size-limit,
-  type-weight-limit,
-  depth-limit,
-  type-depth-limit,
-  size-sum-limit,
-  weight-sum-limit,
-}
-use Rattle.spec.specs.Ticket.{
-  TypeWord,
-  tUnit,
-  tBool,
-  tBits,
-  tFloat,
-  tPointer,
-  tArray,
-  tStruct,
-  tTuple,
-  tOpaque,
-  NodeWord,
-  nBool,
-  nInt,
-  nF32,
-  nF64,
-  nNull,
-  nStaticAddress,
-  nFunction,
-  nRead,
-  nUnary,
-  nBinary,
-  nFunary,
-  nFbinary,
-  nCompare,
-  nConvert,
-  nSelect,
-  nAddress,
-  nOffset,
-  nAggregate,
-  nExtract,
-  nInsert,
-  StorageLine,
-  PlacedLine,
-  NodeLine,
-  Tables,
-  typeAt,
-  arg,
-  type-size-by,
-  weight-by,
-  type-size-in,
-  exprAt,
-}
-use Rattle.spec.specs.Hir.{
-  Expr,
-  boolean,
-  integer,
-  float32,
-  float64,
-  null-pointer,
-  static-address,
-  function-address,
-  read,
-  integer-unary,
-  integer-binary,
-  float-unary,
-  float-binary,
-  compare,
-  convert,
-  select,
-  address-of,
-  pointer-offset,
-  aggregate,
-  extract-element,
-  insert-element,
-  Exprs,
-  no-exprs,
-  _∷ᵉ_,
-}
+use Rattle.spec.specs.Limits.{type-lines, storage-lines, variable-lines, static-lines, place-lines, node-lines, greatest-16, all-regions, type-size-limit, type-weight-limit, depth-limit, type-depth-limit, size-sum-limit, weight-sum-limit}
+use Rattle.spec.specs.Ticket.{TypeWord, tUnit, tBool, tBits, tFloat, tPointer, tArray, tStruct, tTuple, tOpaque, NodeWord, nBool, nInt, nF32, nF64, nNull, nStaticAddress, nFunction, nRead, nUnary, nBinary, nFunary, nFbinary, nCompare, nConvert, nSelect, nAddress, nOffset, nAggregate, nExtract, nInsert, StorageLine, PlacedLine, NodeLine, Tables, typeAt, arg, type-size-by, weight-by, type-size-in, exprAt}
+use Rattle.spec.specs.Hir.{Expr, boolean, integer, float32, float64, null-pointer, static-address, function-address, read, integer-unary, integer-binary, float-unary, float-binary, compare, convert, select, address-of, pointer-offset, aggregate, extract-element, insert-element, Exprs, no-exprs, _∷ᵉ_}
 
 -- ---------------------------------------------------------------- what a line refers to
 

@@ -1,37 +1,10 @@
 -- Document 01's 'rightly typed' and 'single operation', as tests of an expression.
 use Prim.Native.Nat.{ℕ, suc}
-use mathlib.Core.Bool.{Bool, true, false, _&&_, _||_}
-use mathlib.Core.List.{List, _∷_}
+use mathlib.Core.Bool.{Bool, true, false, _&&_}
+use mathlib.Core.List.{List}
 use mathlib.Core.Option.{Option, none, some}
 use lib.Dec.{eqb, leb, ltb}
-use Rattle.spec.specs.Hir.{
-  At,
-  Expr,
-  boolean,
-  integer,
-  float32,
-  float64,
-  null-pointer,
-  static-address,
-  function-address,
-  read,
-  integer-unary,
-  integer-binary,
-  float-unary,
-  float-binary,
-  compare,
-  convert,
-  select,
-  address-of,
-  pointer-offset,
-  aggregate,
-  extract-element,
-  insert-element,
-  Exprs,
-  no-exprs,
-  _∷ᵉ_,
-  ConversionOp,
-}
+use Rattle.spec.specs.Hir.{At, Expr, boolean, integer, float32, float64, null-pointer, static-address, function-address, read, integer-unary, integer-binary, float-unary, float-binary, compare, convert, select, address-of, pointer-offset, aggregate, extract-element, insert-element, Exprs, no-exprs, _∷ᵉ_, ConversionOp}
 use Rattle.spec.specs.Hir as hir
 use Rattle.spec.specs.Ticket.{TypeWord, tUnit, tBool, tBits, tFloat, tPointer, tArray, tStruct, tTuple, tOpaque, Tables, typeAt, arg}
 use Rattle.spec.specs.Operands.{nth}

@@ -1,4 +1,4 @@
--- What the steps leave. Assumes nothing.
+-- What the steps leave.
 use mathlib.Core.Path.{_≡_, refl, sym, ap, subst, _∙_}
 use mathlib.Core.List.{List, append-nil}
 use mathlib.Core.Option.{none, some}

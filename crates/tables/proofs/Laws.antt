@@ -1,7 +1,7 @@
--- What the look-ups into a ticket's tables give, by the words. Assumes nothing.
+-- What the look-ups into a ticket's tables give, by the words.
 use mathlib.Core.Path.{_≡_, refl, sym, ap, subst, _∙_}
 use mathlib.Core.Bool.{Bool, true, false}
-use mathlib.Core.List.{List, [], _∷_, _++_}
+use mathlib.Core.List.{List, _∷_, _++_}
 use mathlib.Core.Option.{none, some}
 use Prim.Native.Nat.{ℕ, zero, suc, _+_, _-_, _*_, _≤_, _<_}
 use native.Mathlib.Omega.{arith}
@@ -11,31 +11,7 @@ use borrow.Author.Tests.{lt-ltb, le-ltb, ltb-true, ltb-false}
 use Rattle.spec.specs.Hir.{At, Expr, Place, null-pointer, variable}
 use Rattle.spec.specs.Forms.{type-rules, place-rules, node-rules}
 use Rattle.spec.specs.Read.{behind-type}
-use Rattle.spec.specs.Ticket.{
-  TypeWord,
-  tUnit,
-  tBool,
-  tBits,
-  tFloat,
-  tPointer,
-  tArray,
-  tOpaque,
-  Tables,
-  noType,
-  noStorage,
-  noPlace,
-  noNode,
-  typeAt,
-  storageAt,
-  placeLineAt,
-  nodeAt,
-  arg,
-  exprOf,
-  placeOf,
-  exprAt,
-  placeAt,
-  nowhere,
-}
+use Rattle.spec.specs.Ticket.{TypeWord, tUnit, tBool, tBits, tFloat, tPointer, tArray, tOpaque, noType, noStorage, noPlace, noNode, typeAt, storageAt, placeLineAt, nodeAt, arg, exprOf, placeOf, exprAt, placeAt, nowhere}
 use Rattle.spec.specs.Operands.{nth}
 use Rattle.spec.specs.Allocation.{type-size}
 use Rattle.spec.specs.Readable.{Counted, TypesRight, Readable}
@@ -44,60 +20,7 @@ use Rattle.tables.specs.declared.TypeKind.{TypeKind}
 use Rattle.tables.specs.declared.NodeKind.{NodeKind}
 use Rattle.tables.specs.declared.PlaceKind.{PlaceKind}
 use Rattle.tables.specs.declared.PlacedAt.{PlacedAt}
-use Rattle.tables.specs.Tables.{
-  pick,
-  tab,
-  row-of,
-  cell,
-  run,
-  numbers-at,
-  storages-from,
-  variables-from,
-  statics-from,
-  places-from,
-  type-cell,
-  type-word-by,
-  type-kinds,
-  type-kind,
-  type-kind-in,
-  type-kind-at,
-  type-word,
-  type-args,
-  size-at,
-  weight-at,
-  type-line,
-  storage-line,
-  owner-at,
-  placed-line,
-  placed-option,
-  placed-of,
-  placed-at,
-  placed-list,
-  variables-of,
-  statics-of,
-  place-word-by,
-  place-kinds,
-  place-kind,
-  place-kind-at,
-  place-word,
-  place-args,
-  place-line,
-  node-cell,
-  node-word-by,
-  node-kinds,
-  node-kind,
-  node-kind-in,
-  node-kind-at,
-  node-word,
-  node-args,
-  node-line,
-  behind,
-  tables-of,
-  tree-of,
-  place-of,
-  at-of,
-  Sized,
-}
+use Rattle.tables.specs.Tables.{pick, tab, row-of, cell, run, numbers-at, storages-from, variables-from, statics-from, places-from, type-cell, type-word-by, type-kinds, type-kind, type-kind-in, type-kind-at, type-word, type-args, size-at, weight-at, type-line, storage-line, owner-at, placed-line, placed-option, placed-of, placed-at, placed-list, variables-of, statics-of, place-word-by, place-kinds, place-kind, place-kind-at, place-word, place-args, place-line, node-cell, node-word-by, node-kinds, node-kind, node-kind-in, node-kind-at, node-word, node-args, node-line, behind, tables-of, tree-of, place-of, at-of, Sized}
 
 -- ---------------------------------------------------------------- lists by a function
 

@@ -1,6 +1,6 @@
--- A ticket with every word: the words of its lines stand for what is read from it. Assumes nothing.
+-- A ticket with every word: the words of its lines stand for what is read from it.
 use mathlib.Core.Path.{_≡_, refl}
-use mathlib.Core.List.{List, [], _∷_, _++_}
+use mathlib.Core.List.{List, _∷_, _++_}
 use Prim.Native.Nat.{ℕ, zero, suc}
 use Prim.Native.String.{String}
 use lib.ListN.{take, drop}
@@ -8,21 +8,7 @@ use Rattle.spec.specs.Text.{text}
 use Rattle.spec.specs.Read.{read-ticket, accepted}
 use Rattle.spec.specs.Answer.{computing}
 use Rattle.tables.specs.declared.Counts.{Counts}
-use Rattle.tables.specs.Tables.{
-  tab,
-  cell,
-  run,
-  numbers-at,
-  type-word-by,
-  type-line,
-  storage-line,
-  placed-list,
-  place-word-by,
-  place-line,
-  node-word-by,
-  node-line,
-  tables-of,
-}
+use Rattle.tables.specs.Tables.{tab, cell, run, numbers-at, type-word-by, type-line, storage-line, placed-list, place-word-by, place-line, node-word-by, node-line, tables-of}
 
 abbrev ticket : List String
 ticket =

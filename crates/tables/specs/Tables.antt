@@ -11,63 +11,14 @@
 -- `lists` has the numbers of all lines, one line's behind another's; a node's first number is its TYPE.
 use Prim.Native.Nat.{ℕ, zero, suc, _+_, _-_, _*_, _≤_}
 use mathlib.Core.Bool.{Bool, true, false}
-use mathlib.Core.List.{List, [], _∷_}
+use mathlib.Core.List.{List, _∷_}
 use mathlib.Core.Option.{Option, none, some}
 use lib.ListN.{length, getD}
 use lib.Dec.{ltb}
 use Rattle.spec.specs.Forms.{rule, type-rules, place-rules, node-rules}
 use Rattle.spec.specs.Read.{behind-type}
 use Rattle.spec.specs.Hir.{At, Expr, Place}
-use Rattle.spec.specs.Ticket.{
-  TypeWord,
-  tUnit,
-  tBool,
-  tBits,
-  tFloat,
-  tPointer,
-  tArray,
-  tStruct,
-  tTuple,
-  tOpaque,
-  PlaceWord,
-  pVariable,
-  pStatic,
-  pField,
-  pElement,
-  pOffset,
-  NodeWord,
-  nBool,
-  nInt,
-  nF32,
-  nF64,
-  nNull,
-  nStaticAddress,
-  nFunction,
-  nRead,
-  nUnary,
-  nBinary,
-  nFunary,
-  nFbinary,
-  nCompare,
-  nConvert,
-  nSelect,
-  nAddress,
-  nOffset,
-  nAggregate,
-  nExtract,
-  nInsert,
-  TypeLine,
-  StorageLine,
-  PlacedLine,
-  PlaceLine,
-  NodeLine,
-  Tables,
-  arg,
-  exprOf,
-  placeOf,
-  exprAt,
-  placeAt,
-}
+use Rattle.spec.specs.Ticket.{TypeWord, tUnit, tBool, tBits, tFloat, tPointer, tArray, tStruct, tTuple, tOpaque, PlaceWord, pVariable, pStatic, pField, pElement, pOffset, NodeWord, nBool, nInt, nF32, nF64, nNull, nStaticAddress, nFunction, nRead, nUnary, nBinary, nFunary, nFbinary, nCompare, nConvert, nSelect, nAddress, nOffset, nAggregate, nExtract, nInsert, TypeLine, StorageLine, PlacedLine, PlaceLine, NodeLine, Tables, arg, exprOf, placeOf, exprAt, placeAt}
 use Rattle.tables.specs.declared.Counts.{Counts}
 use Rattle.tables.specs.declared.TypeKind.{TypeKind}
 use Rattle.tables.specs.declared.Placed.{Placed}

@@ -3,4 +3,3 @@ pub mod Copying
 pub mod Steps
 pub mod Positions
 pub mod Words
-pub mod Parts

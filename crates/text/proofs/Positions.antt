@@ -1,7 +1,7 @@
 -- Fields at positions: how a field, and the number in it, go on from one position to the next.
 use Prim.Native.Nat.{ℕ, _+_, _-_, _^_, _≤_, _<_}
 use mathlib.Core.Bool.{Bool, true, false}
-use mathlib.Core.List.{List, [], _∷_}
+use mathlib.Core.List.{List, _∷_}
 use mathlib.Core.Option.{Option, none, some}
 use mathlib.Core.Path.{_≡_, refl, sym, ap, subst, _∙_}
 use native.Mathlib.Omega.{arith}
@@ -77,10 +77,6 @@ no-number (some w) n e = cc
 pub number-is : (s : List ℕ) (at v : ℕ) (c : Cursor) → number-at s at ≡ Value v c → (number (field-at s at) ≡ some v) × (c .at ≡ field-end s at)
 unfolding number-at
 number-is s at v c e = is-number (number (field-at s at)) (field-end s at) v c e
-
-pub number-is-not : (s : List ℕ) (at : ℕ) → number-at s at ≡ Malformed → number (field-at s at) ≡ none
-unfolding number-at
-number-is-not s at e = no-number (number (field-at s at)) (field-end s at) e
 
 -- ---------------------------------------------------------------- in the shape of what reading needs
 

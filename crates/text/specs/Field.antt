@@ -1,11 +1,11 @@
 -- Fields at positions of a text, and the numbers and words in them.
 use Prim.Native.Nat.{ℕ, _+_}
-use mathlib.Core.Bool.{Bool, true, false, _&&_, _||_, cond}
-use mathlib.Core.List.{List, [], _∷_}
+use mathlib.Core.Bool.{Bool, true, false, _&&_, cond}
+use mathlib.Core.List.{List, _∷_}
 use mathlib.Core.Option.{Option, none, some}
 use lib.Dec.{eqb, ltb}
 use lib.ListN.{length, drop, getD}
-use Rattle.spec.specs.Text.{comma, line-feed, same, split, number}
+use Rattle.spec.specs.Text.{comma, line-feed, split, number}
 use Rattle.text.specs.declared.Decimal.{Decimal}
 use Rattle.text.specs.declared.Decimal.the-variants.{Value, Malformed}
 use Rattle.text.specs.declared.Expected.{Expected}
@@ -67,9 +67,6 @@ stands s at b = ltb at (length s) && eqb (getD s at 0) b
 unfoldable pub byte-at : List ℕ → ℕ → ℕ → Expected
 byte-at s at b = expected (stands s at b) (at + 1)
 
--- the field at a position is the word w
-unfoldable pub word-at : List ℕ → ℕ → List ℕ → Expected
-word-at s at w = expected (same w (field-at s at)) (field-end s at)
 
 -- a comma at a position, and a number behind it
 unfoldable pub next-number-at : List ℕ → ℕ → Decimal

@@ -1,11 +1,11 @@
 // Texts as bytes: decimal numbers, fields and lines.
 ghost use mathlib.Core.Path.{_≡_};
-ghost use mathlib.Core.List.{[], _∷_};
+ghost use mathlib.Core.List.{_∷_};
 ghost use Prim.Native.Nat.{_≤_, _<_};
 ghost use lib.ListN.{length};
 ghost use Rattle.spec.specs.Text.{digits};
 ghost use Rattle.text.specs.Put.{Put};
-ghost use Rattle.text.specs.Field.{ends-field, number-at, byte-at, word-at, next-number-at};
+ghost use Rattle.text.specs.Field.{number-at, byte-at, next-number-at};
 ghost use Rattle.text.specs.Step.{Step};
 
 // One byte; where there is no room it is dropped.
@@ -202,39 +202,4 @@ pub fn next_number(text: &[u8], cursor: Cursor) -> Decimal
         return Decimal::Malformed;
     };
     number(text, next)
-}
-
-fn ends_field(byte: u8) -> bool
-    ensures { λ r. ⌜ r ≡ ends-field byte ⌝ }
-{
-    byte == b',' || byte == b'\n'
-}
-
-// The word w as the whole field at the cursor.
-pub fn word(text: &[u8], cursor: Cursor, w: &[u8]) -> Expected
-    ensures { λ r. ⌜ r ≡ word-at (now (text .entry)) (cursor .at) (now (w .entry)) ⌝ }
-{
-    let mut i = cursor.at;
-    let mut j: usize = 0;
-    while j < w.len() {
-        if text.len() <= i {
-            return Expected::Missing;
-        }
-        if ends_field(text[i]) {
-            return Expected::Missing;
-        }
-        if text[i] != w[j] {
-            return Expected::Missing;
-        }
-        i += 1;
-        j += 1;
-    }
-    if text.len() <= i {
-        return Expected::Next(Cursor { at: i });
-    }
-    if ends_field(text[i]) {
-        Expected::Next(Cursor { at: i })
-    } else {
-        Expected::Missing
-    }
 }

@@ -1,9 +1,8 @@
 -- What a row more, or a function line, makes of a reading.
--- Assumes nothing.
 use mathlib.Core.Path.{_≡_, refl, ap, _∙_}
 use mathlib.Core.Bool.{true}
 use mathlib.Core.List.{List}
-use Prim.Native.Nat.{ℕ, suc, _+_, _-_, _*_, _/_, _≤_, _<_}
+use Prim.Native.Nat.{ℕ, suc, _+_, _*_, _/_, _≤_, _<_}
 use native.Mathlib.Omega.{arith}
 use native.Mathlib.Nat.{zero-add, eq-or-lt-of-le, le-of-suc-le-suc}
 use mathlib.Core.Logic.{⊎-elim}
@@ -12,35 +11,16 @@ use borrow.Author.Tests.{ltb-true}
 use Rattle.tables.specs.Tables.{row-of, run, storages-from, variables-from, statics-from, places-from, type-word-by}
 use Rattle.spec.specs.Ticket.{arg}
 use Rattle.spec.specs.Read.{Reading, type-number}
-use Rattle.ticket.specs.Rows.{
-  word-at,
-  Row,
-  rowAt,
-  typeRow,
-  storageRow,
-  placedRow,
-  placeRow,
-  nodeRow,
-  marked,
-  numbers,
-  tablesOf,
-  usedOf,
-  readingOf,
-  Inside,
-  Held,
-  RowPut,
-  Roomy,
-  nodes-from,
-}
-use Rattle.ticket.specs.Keys.{key-of, key-row, noted, has-key, row-key, Keyed}
-use Rattle.ticket.specs.Steps.{fewOf}
+use Rattle.line_checks.specs.Rows.{word-at, Row, rowAt, typeRow, storageRow, placedRow, placeRow, nodeRow, marked, numbers, tablesOf, usedOf, readingOf, Inside, Held, RowPut, Roomy, nodes-from}
+use Rattle.line_checks.specs.Keys.{key-of, key-row, noted, has-key, row-key, Keyed}
+use Rattle.line_checks.specs.Steps.{fewOf}
 use Rattle.ticket.specs.Grown.{grown, Added}
-use Rattle.ticket.specs.declared.LineKind.{LineKind}
-use Rattle.ticket.specs.declared.LineKind.the-variants.{Functions, Types, Storages, Variables, Statics, Places, Nodes}
+use Rattle.line_forms.specs.declared.LineKind.{LineKind}
+use Rattle.line_forms.specs.declared.LineKind.the-variants.{Functions, Types, Storages, Variables, Statics, Places, Nodes}
 use Rattle.tables.specs.declared.Counts.{Counts}
 use Rattle.ticket.specs.declared.Extent.{Extent}
-use Rattle.ticket.proofs.RowLaws.{section-more, section-kept}
-use Rattle.ticket.proofs.KeyLaws.{slot-behind, put-keys, keyed-put, note-put, note-has, keyed-note, keyed-more}
+use Rattle.line_checks.proofs.RowLaws.{section-more, section-kept}
+use Rattle.line_checks.proofs.KeyLaws.{slot-behind, put-keys, keyed-put, note-put, note-has, keyed-note, keyed-more}
 
 module _ (u t : List ℕ) (used used′ base cnt : ℕ) (i : Inside u used base cnt) (l : used ≤ used′) where
   before : (k : ℕ) → k < cnt → rowAt t (row-of base k) ≡ rowAt u (row-of base k) → word-at t (row-of base k) 1 + word-at t (row-of base k) 2 ≤ used′

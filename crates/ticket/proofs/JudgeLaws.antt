@@ -1,71 +1,36 @@
 -- The later tests of a line, and what follows them.
--- Assumes nothing.
 use mathlib.Core.Path.{_≡_, refl, sym, ap, _∙_}
 use mathlib.Core.Bool.{Bool, true, false, not, _&&_}
-use mathlib.Core.List.{List, [], _∷_}
+use mathlib.Core.List.{List}
 use mathlib.Core.Option.{Option, none, some}
-use Prim.Native.Nat.{ℕ, zero, suc, _+_, _-_, _≤_, _<_}
-use lib.Dec.{leb, ltb, lit<}
+use Prim.Native.Nat.{ℕ, zero, suc, _+_, _≤_, _<_}
+use lib.Dec.{leb, lit<}
 use borrow.Author.Tests.{le-leb, lt-leb, eqb-false, not-false}
-use Rattle.tables.specs.Tables.{pick, row-of, run, storages-from, variables-from, statics-from, places-from, cell}
+use Rattle.tables.specs.Tables.{pick, row-of, run, storages-from, variables-from, statics-from, places-from}
 use Rattle.spec.specs.Limits.{size-sum-limit, weight-sum-limit}
 use Rattle.spec.specs.Read.{stop, once}
-use Rattle.ticket.specs.Classes.{argsOf}
+use Rattle.line_forms.specs.Classes.{argsOf}
 use Rattle.spec.specs.Ticket.{arg}
-use Rattle.spec.specs.Forms.{Arg, Field, between, float-width, type-part, type, storage, place, node}
-use Rattle.ticket.specs.Rows.{
-  readingOf,
-  usedOf,
-  tablesOf,
-  Few,
-  Inside,
-  Held,
-  word-at,
-  Row,
-  rowAt,
-  section,
-  numbers,
-  typeRow,
-  storageRow,
-  placedRow,
-  placeRow,
-  nodeRow,
-  nodes-from,
-}
-use Rattle.ticket.specs.Keys.{Keyed}
-use Rattle.ticket.specs.declared.LineKind.the-variants.{Functions, Types, Storages, Variables, Statics, Places, Nodes}
-use Rattle.ticket.proofs.RowLaws.{section-same}
-use Rattle.ticket.specs.Steps.{Measure, capped, cappedOf, measuredOf, deepestIn, depthIn, MarkedAll, Alike}
+use Rattle.line_checks.specs.Rows.{readingOf, usedOf, tablesOf, Few, Inside, Held, word-at, Row, rowAt, section, numbers, typeRow, storageRow, placedRow, placeRow, nodeRow, nodes-from}
+use Rattle.line_checks.specs.Keys.{Keyed}
+use Rattle.line_forms.specs.declared.LineKind.the-variants.{Functions, Types, Storages, Variables, Statics, Places, Nodes}
+use Rattle.line_checks.proofs.RowLaws.{section-same}
+use Rattle.line_checks.specs.Steps.{Measure, capped, cappedOf, measuredOf, deepestIn, MarkedAll, Alike}
 use Rattle.ticket.specs.Grown.{Added}
-use Rattle.ticket.specs.Judged.{
-  startIn,
-  typesIn,
-  sizedIn,
-  allowedIn,
-  ownIn,
-  sumsIn,
-  summed,
-  summedOf,
-  with-sums,
-  with-depth,
-  with-test,
-  with-size,
-  last-step,
-  late-step,
-  Judged,
-}
-use Rattle.ticket.specs.declared.LineKind.{LineKind}
+use Rattle.ticket.specs.Judged.{startIn, typesIn, sizedIn, allowedIn, ownIn, sumsIn, summed, summedOf, with-sums, with-depth, with-test, with-size, last-step, late-step, Judged}
+use Rattle.line_forms.specs.declared.LineKind.{LineKind}
 use Rattle.tables.specs.declared.Counts.{Counts}
-use Rattle.ticket.specs.declared.Form.{Form}
-use Rattle.ticket.specs.declared.Capped.{Capped}
-use Rattle.ticket.specs.declared.Capped.the-variants.{Within, Over}
-use Rattle.ticket.specs.declared.Measured.{Measured}
-use Rattle.ticket.specs.declared.Measured.the-variants.{Fits, TooLarge}
+use Rattle.line_forms.specs.declared.Form.{Form}
+use Rattle.line_checks.specs.declared.Capped.{Capped}
+use Rattle.line_checks.specs.declared.Capped.the-variants.{Within, Over}
+use Rattle.line_checks.specs.declared.Measured.{Measured}
+use Rattle.line_checks.specs.declared.Measured.the-variants.{Fits, TooLarge}
 use Rattle.ticket.specs.declared.Stepped.{Stepped}
 use Rattle.ticket.specs.declared.Stepped.the-variants.{Went, Turned}
 use Rattle.ticket.specs.declared.Summed.{Summed}
 use Rattle.ticket.specs.declared.Summed.the-variants.{Sums, Beyond}
-use Rattle.ticket.proofs.MeasureLaws.{cap-is}
+use Rattle.line_checks.proofs.MeasureLaws.{cap-is}
+use Rattle.line_checks.proofs.AlikeLaws.{alike-entry, deepest-alike}
 
 pub start-more : (k w : ℕ) → (k ≡ 0 → ⊥) → (k ≡ 1 → ⊥) → true ≡ startIn k w
 start-more zero w a b = absurd (a refl)
@@ -156,32 +121,6 @@ module _ (ws ls : List ℕ) (c : Counts) (f : Form) (b : Bool) (p : b ≡ typesI
 -- ---------------------------------------------------------------- words that differ in marks alone
 
 module _ (u t ls : List ℕ) (c : Counts) (few : Few c) (a : Alike u t) where
-  alike-entry : (base n k j other : ℕ) → (j ≡ 5 → ⊥) → j < 6 → cell t base n k j other ≡ cell u base n k j other
-  unfolding cell word-at
-  alike-entry base n k j other h l = rw (a .cells (row-of base k) j h l)
-
-  alike-types : (k : ℕ) → cell t 0 (c .types) k 5 1 ≡ cell u 0 (c .types) k 5 1
-  unfolding cell word-at rowAt
-  alike-types k = by (ltb k (c .types)) refl
-    where
-      by : (b : Bool) → ltb k (c .types) ≡ b → pick b (word-at t (row-of 0 k) 5) 1 ≡ pick b (word-at u (row-of 0 k) 5) 1
-      by true e = ap (λ (r : Row). r .fifth) (a .rows 0 k (lit< tt))
-      by false e = refl
-
-  pub depth-alike : (f : Field) (x : ℕ) → depthIn t c f x ≡ depthIn u c f x
-  depth-alike (between m n) x = refl
-  depth-alike float-width x = refl
-  depth-alike type-part x = alike-types x
-  depth-alike type x = refl
-  depth-alike storage x = refl
-  depth-alike place x = alike-entry places-from (c .places) x 4 0 (λ e. eqb-false 4 5 refl e) (lit< tt)
-  depth-alike node x = alike-entry nodes-from (c .nodes) x 4 0 (λ e. eqb-false 4 5 refl e) (lit< tt)
-
-  pub deepest-alike : (xa : List Arg) → deepestIn t c xa ≡ deepestIn u c xa
-  unfolding deepestIn
-  deepest-alike [] = refl
-  deepest-alike (x ∷ xa) = rw (depth-alike (x .class) (x .value), deepest-alike xa)
-
   own-alike : (k : LineKind) (n j other : ℕ) → (j ≡ 5 → ⊥) → j < 6 → ownIn t ls c k n j other ≡ ownIn u ls c k n j other
   own-alike Functions n j other h l = refl
   own-alike Types n j other h l = refl
@@ -189,7 +128,7 @@ module _ (u t ls : List ℕ) (c : Counts) (few : Few c) (a : Alike u t) where
   own-alike Variables n j other h l = refl
   own-alike Statics n j other h l = refl
   own-alike Places n j other h l = refl
-  own-alike Nodes n j other h l = alike-entry 0 (c .types) (arg (run ls (c .used) n) 0) j other h l
+  own-alike Nodes n j other h l = alike-entry u t a 0 (c .types) (arg (run ls (c .used) n) 0) j other h l
 
   pub sums-alike : (k : LineKind) (n : ℕ) → sumsIn t ls c k n ≡ sumsIn u ls c k n
   sums-alike k n = rw (own-alike k n 3 0 (λ e. eqb-false 3 5 refl e) (lit< tt), own-alike k n 4 1 (λ e. eqb-false 4 5 refl e) (lit< tt))
@@ -281,7 +220,7 @@ module _ (ws ls : List ℕ) (c : Counts) (f : Form) (few : Few c) (b : Bool) (p 
         ← q,
         e,
         once-so,
-        deepest-alike ws t ls c few (a .alike) (argsOf f ls (c .used)),
+        deepest-alike ws t c (a .alike) (argsOf f ls (c .used)),
         sums-alike ws t ls c few (a .alike) (f .kind) (f .count),
         tables-alike ws t ls c few (a .alike),
         a .marks o,

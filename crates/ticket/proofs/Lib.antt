@@ -1,15 +1,5 @@
-pub mod Tries
-pub mod FormLaws
-pub mod Classed
-pub mod Numbered
-pub mod LineForms
-pub mod RowLaws
-pub mod TableLaws
-pub mod CheckLaws
-pub mod MeasureLaws
-pub mod KeyLaws
 pub mod AddLaws
 pub mod JudgeLaws
-pub mod MarkLaws
 pub mod StepLaws
 pub mod ReadLaws
+pub mod TableLaws

@@ -1,8 +1,7 @@
 -- From line to line, and the text's end.
--- Assumes nothing.
 use mathlib.Core.Path.{_≡_, refl, sym, _∙_}
 use mathlib.Core.Bool.{Bool, true, false, not}
-use mathlib.Core.List.{List, [], _∷_, _++_}
+use mathlib.Core.List.{List, _∷_, _++_}
 use mathlib.Core.Option.{Option, none, some}
 use Prim.Native.Nat.{ℕ, zero, suc, _+_, _-_, _*_, _/_, _≤_, _<_, min}
 use native.Mathlib.Omega.{arith}
@@ -17,40 +16,9 @@ use Rattle.fields.specs.Fields.{Found}
 use Rattle.fields.proofs.Marks.{split-from, split-some}
 use Rattle.spec.specs.Limits.{text-limit}
 use Rattle.spec.specs.Forms.{lineOf}
-use Rattle.spec.specs.Read.{
-  Reading,
-  stop,
-  go,
-  step,
-  Read,
-  refused,
-  accepted,
-  left-places,
-  left-nodes,
-  least,
-  left-over,
-  at-end,
-  at-tail,
-  read-lines,
-  start,
-  read-ticket,
-}
-use Rattle.ticket.specs.Rows.{
-  rowAt,
-  word-at,
-  section,
-  placeRow,
-  nodeRow,
-  marked,
-  tablesOf,
-  usedOf,
-  readingOf,
-  Few,
-  Held,
-  RoomIs,
-  nodes-from,
-}
-use Rattle.ticket.specs.Keys.{Keyed}
+use Rattle.spec.specs.Read.{Reading, stop, go, step, Read, refused, accepted, left-places, left-nodes, least, left-over, at-end, at-tail, read-lines, start, read-ticket}
+use Rattle.line_checks.specs.Rows.{rowAt, word-at, section, placeRow, nodeRow, marked, tablesOf, usedOf, readingOf, Few, Held, RoomIs, nodes-from}
+use Rattle.line_checks.specs.Keys.{Keyed}
 use Rattle.ticket.specs.Judged.{StepAt, LineGoes}
 use Rattle.ticket.specs.Answers.{leastOf, joined, with-left, least-rows, but-last, left-of, Answered, advanceOf, Advance, behindOf, Begun}
 use Rattle.tables.specs.declared.Counts.{Counts}
@@ -62,9 +30,9 @@ use Rattle.ticket.specs.declared.ReadAnswer.{ReadAnswer}
 use Rattle.ticket.specs.declared.ReadAnswer.the-variants.{Refused, Accepted}
 use Rattle.ticket.specs.declared.Stepped.{Stepped}
 use Rattle.ticket.specs.declared.Stepped.the-variants.{Went, Turned}
-use Rattle.ticket.proofs.RowLaws.{length-section}
+use Rattle.line_checks.proofs.RowLaws.{length-section}
 use Rattle.ticket.proofs.TableLaws.{tables-are}
-use Rattle.ticket.proofs.MarkLaws.{no-truth}
+use Rattle.line_checks.proofs.MarkLaws.{no-truth}
 
 -- ---------------------------------------------------------------- lines left over
 

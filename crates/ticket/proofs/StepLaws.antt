@@ -1,10 +1,9 @@
 -- The code's step as `Read`'s: its tests by the words are those by the tables.
--- Assumes nothing.
 use mathlib.Core.Path.{_≡_, refl, sym, ap, fun-ext, _∙_}
 use mathlib.Core.Bool.{Bool, true, false, _&&_}
-use mathlib.Core.List.{List, [], _∷_, _++_}
+use mathlib.Core.List.{List, _∷_, _++_}
 use mathlib.Core.Option.{Option, none, some}
-use Prim.Native.Nat.{ℕ, zero, suc, _+_, _-_, _*_, _≤_, _<_}
+use Prim.Native.Nat.{ℕ, zero, suc, _+_, _*_, _≤_, _<_}
 use native.Mathlib.Omega.{arith}
 use native.Mathlib.Numerals.{add-one}
 use lib.Dec.{leb, ltb}
@@ -16,94 +15,26 @@ use Rattle.fields.proofs.Tabs.{run-kept, tab-same}
 use Rattle.spec.specs.Limits.{size-sum-limit, weight-sum-limit, type-size-limit, type-weight-limit}
 use Rattle.spec.specs.Ticket.{Tables, typeAt, noType, noPlace, noNode, arg, type-size-by, weight-by}
 use Rattle.spec.specs.Forms.{Arg, Field, between, float-width, type-part, type, storage, place, node, Line, values, lineOf}
-use Rattle.spec.specs.Read.{
-  Reading,
-  Step,
-  stop,
-  Test,
-  test,
-  first-failed,
-  refusal-of,
-  step,
-  step-by,
-  add,
-  add-line,
-  all,
-  rank,
-  in-order,
-  few-enough,
-  in-range,
-  fields-fit,
-  earlier,
-  earlier-of,
-  types-right,
-  small-enough,
-  size-of,
-  weight-of,
-  once,
-  depth-of,
-  deepest,
-  depth-of-field,
-  depth-allowed,
-  own-size,
-  own-weight,
-  sums-fit,
-  right-start,
-}
-use Rattle.ticket.specs.Classes.{headOf, argsOf, lineFrom, FormAt}
-use Rattle.ticket.specs.Rows.{
-  Row,
-  rowAt,
-  word-at,
-  section,
-  typeRow,
-  storageRow,
-  placedRow,
-  placeRow,
-  nodeRow,
-  numbers,
-  tablesOf,
-  usedOf,
-  readingOf,
-  Inside,
-  Held,
-  nodes-from,
-}
-use Rattle.ticket.specs.Keys.{Keyed}
-use Rattle.ticket.specs.Steps.{verdictOf, fewOf, earlierIn, earlierArg, depthIn, deepestIn, early-tests, Measure, measured}
+use Rattle.spec.specs.Read.{Reading, Step, stop, Test, test, first-failed, refusal-of, step, step-by, add, add-line, all, rank, in-order, few-enough, in-range, fields-fit, earlier, earlier-of, types-right, small-enough, size-of, weight-of, once, depth-of, deepest, depth-of-field, depth-allowed, own-size, own-weight, sums-fit, right-start}
+use Rattle.line_forms.specs.Classes.{headOf, argsOf, lineFrom, FormAt}
+use Rattle.line_checks.specs.Rows.{Row, rowAt, word-at, section, typeRow, storageRow, placedRow, placeRow, nodeRow, numbers, tablesOf, usedOf, readingOf, Inside, Held, nodes-from}
+use Rattle.line_checks.specs.Keys.{Keyed}
+use Rattle.line_checks.specs.Steps.{verdictOf, fewOf, earlierIn, earlierArg, depthIn, deepestIn, early-tests, Measure, measured}
 use Rattle.ticket.specs.Grown.{grown}
-use Rattle.ticket.specs.Judged.{
-  startIn,
-  typesIn,
-  sizedIn,
-  allowedIn,
-  ownIn,
-  summed,
-  extent,
-  with-sums,
-  with-depth,
-  with-test,
-  with-size,
-  late-step,
-  marking,
-  Judged,
-  Goes,
-  LineGoes,
-  StepAt,
-}
-use Rattle.ticket.specs.declared.LineKind.{LineKind}
-use Rattle.ticket.specs.declared.LineKind.the-variants.{Functions, Types, Storages, Variables, Statics, Places, Nodes}
+use Rattle.ticket.specs.Judged.{startIn, typesIn, sizedIn, allowedIn, ownIn, summed, extent, with-sums, with-depth, with-test, with-size, late-step, marking, Judged, Goes, LineGoes, StepAt}
+use Rattle.line_forms.specs.declared.LineKind.{LineKind}
+use Rattle.line_forms.specs.declared.LineKind.the-variants.{Functions, Types, Storages, Variables, Statics, Places, Nodes}
 use Rattle.tables.specs.declared.Counts.{Counts}
-use Rattle.ticket.specs.declared.Form.{Form}
-use Rattle.ticket.specs.declared.Formed.{Formed}
-use Rattle.ticket.specs.declared.Formed.the-variants.{Line as Lined, Unformed}
-use Rattle.ticket.specs.declared.Verdict.{Verdict}
-use Rattle.ticket.specs.declared.Verdict.the-variants.{Passed, Refused}
+use Rattle.line_forms.specs.declared.Form.{Form}
+use Rattle.line_forms.specs.declared.Formed.{Formed}
+use Rattle.line_forms.specs.declared.Formed.the-variants.{Line as Lined, Unformed}
+use Rattle.line_checks.specs.declared.Verdict.{Verdict}
+use Rattle.line_checks.specs.declared.Verdict.the-variants.{Passed, Refused}
 use Rattle.ticket.specs.declared.Stepped.{Stepped}
 use Rattle.ticket.specs.declared.Stepped.the-variants.{Went, Turned}
-use Rattle.ticket.proofs.RowLaws.{section-at, section-past, length-section}
-use Rattle.ticket.proofs.CheckLaws.{values-of}
-use Rattle.ticket.proofs.KeyLaws.{keyed-lists}
+use Rattle.line_checks.proofs.RowLaws.{section-at, section-past, length-section}
+use Rattle.line_checks.proofs.CheckLaws.{values-of}
+use Rattle.line_checks.proofs.KeyLaws.{keyed-lists}
 
 -- ---------------------------------------------------------------- tables by the words
 

@@ -1,5 +1,4 @@
 -- The tables that reading makes are those that the look-ups see.
--- Assumes nothing.
 use mathlib.Core.Path.{_≡_, sym, ap, _∙_}
 use mathlib.Core.List.{List}
 use Prim.Native.Nat.{ℕ, _+_, _*_, _<_}
@@ -7,37 +6,10 @@ use native.Mathlib.Omega.{arith}
 use lib.ListN.{drop}
 use lib.Seq.{getD-drop}
 use Rattle.tables.specs.declared.Counts.{Counts}
-use Rattle.tables.specs.Tables.{
-  tab,
-  row-of,
-  numbers-at,
-  type-line,
-  storage-line,
-  placed-line,
-  placed-of,
-  placed-list,
-  place-line,
-  node-line,
-  tables-of,
-  storages-from,
-  places-from,
-}
+use Rattle.tables.specs.Tables.{tab, row-of, numbers-at, type-line, storage-line, placed-line, placed-of, placed-list, place-line, node-line, tables-of, storages-from, places-from}
 use Rattle.fields.proofs.Tabs.{tab-same}
-use Rattle.ticket.proofs.RowLaws.{cell-here}
-use Rattle.ticket.specs.Rows.{
-  word-at,
-  Row,
-  rowAt,
-  section,
-  numbers,
-  typeRow,
-  storageRow,
-  placedRow,
-  placeRow,
-  nodeRow,
-  nodes-from,
-  tablesOf,
-}
+use Rattle.line_checks.proofs.RowLaws.{cell-here}
+use Rattle.line_checks.specs.Rows.{word-at, Row, rowAt, section, numbers, typeRow, storageRow, placedRow, placeRow, nodeRow, nodes-from, tablesOf}
 
 -- ---------------------------------------------------------------- a row of n
 

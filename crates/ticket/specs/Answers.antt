@@ -8,8 +8,8 @@ use lib.ListN.{length, drop}
 use Rattle.spec.specs.Text.{split, line-feed}
 use Rattle.tables.specs.Tables.{pick, row-of, places-from, tables-of}
 use Rattle.spec.specs.Read.{Read, refused, accepted, read-lines, start}
-use Rattle.ticket.specs.Rows.{word-at, readingOf, Held, nodes-from, rows-length, Roomy}
-use Rattle.ticket.specs.Keys.{Keyed}
+use Rattle.line_checks.specs.Rows.{word-at, readingOf, Held, nodes-from, rows-length, Roomy}
+use Rattle.line_checks.specs.Keys.{Keyed}
 use Rattle.tables.specs.declared.Counts.{Counts}
 use Rattle.ticket.specs.declared.Least.{Least}
 use Rattle.ticket.specs.declared.Least.the-variants.{Line, Nothing}

@@ -1,15 +1,15 @@
 -- A reading with one line more, from the line's numbers and what is known of it.
 use Prim.Native.Nat.{ℕ, suc, _+_}
 use mathlib.Core.Path.{_≡_}
-use mathlib.Core.List.{List, [], _∷_, _++_}
+use mathlib.Core.List.{List, _∷_, _++_}
 use Rattle.tables.specs.Tables.{run, type-word-by, place-word-by, node-word-by}
 use Rattle.spec.specs.Ticket.{Tables, arg}
 use Rattle.spec.specs.Read.{Reading, rank, storage-line, placed-line, behind-type, new-used}
-use Rattle.ticket.specs.Classes.{headOf}
-use Rattle.ticket.specs.Rows.{readingOf, Held}
-use Rattle.ticket.specs.Keys.{Keyed}
-use Rattle.ticket.specs.declared.LineKind.{LineKind}
-use Rattle.ticket.specs.declared.LineKind.the-variants.{Functions, Types, Storages, Variables, Statics, Places, Nodes}
+use Rattle.line_forms.specs.Classes.{headOf}
+use Rattle.line_checks.specs.Rows.{readingOf, Held}
+use Rattle.line_checks.specs.Keys.{Keyed}
+use Rattle.line_forms.specs.declared.LineKind.{LineKind}
+use Rattle.line_forms.specs.declared.LineKind.the-variants.{Functions, Types, Storages, Variables, Statics, Places, Nodes}
 use Rattle.tables.specs.declared.Counts.{Counts}
 use Rattle.ticket.specs.declared.Extent.{Extent}
 

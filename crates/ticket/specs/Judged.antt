@@ -10,16 +10,16 @@ use Rattle.tables.specs.Tables.{pick, run, cell, type-word-by}
 use Rattle.spec.specs.Limits.{depth-limit, type-depth-limit, size-sum-limit, weight-sum-limit}
 use Rattle.spec.specs.Ticket.{arg, type-size-by, weight-by}
 use Rattle.spec.specs.Read.{Reading, Step, stop, go, alike, type-number, once, mark}
-use Rattle.ticket.specs.Classes.{argsOf}
-use Rattle.ticket.specs.Rows.{section, typeRow, usedOf, readingOf, Held}
-use Rattle.ticket.specs.Keys.{Keyed}
-use Rattle.ticket.specs.Steps.{Measure, measured, deepestIn}
+use Rattle.line_forms.specs.Classes.{argsOf}
+use Rattle.line_checks.specs.Rows.{section, typeRow, usedOf, readingOf, Held}
+use Rattle.line_checks.specs.Keys.{Keyed}
+use Rattle.line_checks.specs.Steps.{Measure, measured, deepestIn}
 use Rattle.ticket.specs.Grown.{grown}
-use Rattle.ticket.specs.declared.LineKind.{LineKind}
-use Rattle.ticket.specs.declared.LineKind.the-variants.{Functions, Types, Storages, Variables, Statics, Places, Nodes}
+use Rattle.line_forms.specs.declared.LineKind.{LineKind}
+use Rattle.line_forms.specs.declared.LineKind.the-variants.{Functions, Types, Storages, Variables, Statics, Places, Nodes}
 use Rattle.tables.specs.declared.Counts.{Counts}
 use Rattle.ticket.specs.declared.Extent.{Extent}
-use Rattle.ticket.specs.declared.Form.{Form}
+use Rattle.line_forms.specs.declared.Form.{Form}
 use Rattle.ticket.specs.declared.Stepped.{Stepped}
 use Rattle.ticket.specs.declared.Stepped.the-variants.{Went, Turned}
 use Rattle.ticket.specs.declared.Summed.{Summed}

@@ -5,7 +5,7 @@ ghost use lib.ListN.{length};
 ghost use Rattle.tables.specs.Tables.{row-of};
 ghost use Rattle.spec.specs.Text.{split, line-feed};
 ghost use Rattle.spec.specs.Read.{at-end, read-lines as readLines, read-ticket as readTicket, start};
-ghost use Rattle.ticket.specs.Rows.{Few, Held, RoomIs, readingOf};
+ghost use Rattle.line_checks.specs.Rows.{Few, Held, RoomIs, readingOf};
 ghost use Rattle.ticket.specs.Answers.{leastOf, joined, with-left, least-rows, but-last, left-of, Answered, Advance, Ready, behindOf, Begun};
 use crate::Advanced;
 use crate::Least;

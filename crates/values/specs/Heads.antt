@@ -1,31 +1,12 @@
 -- A value as records in pre-order: its own head, and the heads of its parts.
 use mathlib.Core.Path.{_≡_, refl, sym, ap}
-use mathlib.Core.List.{List, [], _∷_, _++_, map, append-assoc, append-nil}
+use mathlib.Core.List.{List, _∷_, _++_, map, append-assoc, append-nil}
 use mathlib.Core.Option.{Option, none, some}
-use Prim.Native.Nat.{ℕ, zero, suc, _+_, _-_, _≤_}
+use Prim.Native.Nat.{ℕ, zero, suc, _≤_}
 use native.Mathlib.Omega.{arith}
 use lib.ListN.{length, drop, length-drop}
 use lib.Seq.{drop-at}
-use Rattle.spec.specs.Lir.{
-  ByteOperand,
-  BitOperand,
-  ValueOperand,
-  bit-operand,
-  byte-operand,
-  Value,
-  value,
-  Repr,
-  unit,
-  bit-value,
-  bytes-value,
-  aggregate,
-  Values,
-  no-values,
-  _∷ᵛ_,
-  flatten-value-operands,
-  flatten-repr,
-  flatten-values,
-}
+use Rattle.spec.specs.Lir.{ByteOperand, BitOperand, ValueOperand, bit-operand, byte-operand, Value, value, Repr, unit, bit-value, bytes-value, aggregate, Values, no-values, _∷ᵛ_, flatten-value-operands, flatten-repr, flatten-values}
 use Rattle.spec.specs.Operands.{nth-value, value-repr, value-type, repr-bytes, repr-bit}
 use Rattle.lir.specs.Abstract.{bit-operand-of, bytes-of, Small}
 use Rattle.values.specs.declared.Value.{Value as Val}

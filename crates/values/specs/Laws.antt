@@ -1,6 +1,6 @@
 -- Laws of one step after another.
 use mathlib.Core.Path.{_≡_, refl, sym, ap, _∙_}
-use mathlib.Core.List.{List, [], _∷_, _++_, append-assoc, append-nil}
+use mathlib.Core.List.{List, _∷_, _++_, append-assoc, append-nil}
 use Prim.Native.Nat.{ℕ, suc, _+_, _*_, _≤_}
 use native.Mathlib.Omega.{arith}
 use lib.ListN.{length, take, drop, length-append}
@@ -18,26 +18,7 @@ use Rattle.values.specs.declared.Lowered.{Lowered}
 use Rattle.values.specs.declared.BitLowered.{BitLowered}
 use Rattle.values.specs.declared.Listed.{Listed}
 use Rattle.values.specs.Heads.{Head, head-of, Sound-value, sound-append, map-append}
-use Rattle.values.specs.Left.{
-  Bufs,
-  bufs,
-  counters-in,
-  at-top,
-  marked,
-  marked-append,
-  value-words,
-  values-words,
-  words-append,
-  length-value,
-  Left,
-  case-value,
-  case-bit,
-  case-list,
-  MeetsValue,
-  MeetsBit,
-  MeetsList,
-  DoneValue,
-}
+use Rattle.values.specs.Left.{Bufs, bufs, counters-in, at-top, marked, marked-append, value-words, values-words, words-append, length-value, Left, case-value, case-bit, case-list, MeetsValue, MeetsBit, MeetsList, DoneValue}
 
 pub prepend-prepend : {A : Type 0} (o p : Out) (x : Outcome A) → prepend o (prepend p x) ≡ prepend (_⊕_ o p) x
 prepend-prepend o p (refused n l) = refl

@@ -1,6 +1,6 @@
 -- What a step leaves behind, and which outcome it was.
 use mathlib.Core.Path.{_≡_, refl, sym, ap, subst}
-use mathlib.Core.List.{List, [], _∷_, _++_, map, append-assoc}
+use mathlib.Core.List.{List, _∷_, _++_, map, append-assoc}
 use Prim.Native.Nat.{ℕ, _+_, _*_}
 use lib.ListN.{length, take, set}
 use Rattle.spec.specs.Lir.{BitOperand, Value, Values}
@@ -201,27 +201,3 @@ pub record DoneList (t : ℕ) (b : Bufs) (s : State) (o : Outcome Values) (b′ 
   pub is : o ≡ done vs (counters-in s′) out
   pub many : count vs ≡ t
   pub left : Left b s (preorders vs) (counters-in s′) out b′ s′
-
-list-case : (t : ℕ) (b : Bufs) (s : State) (o : Outcome Values) (b′ : Bufs) (s′ : State) → case-list t b s o b′ (Listed.Done s′) → DoneList t b s o b′ s′
-list-case t b s (done v cs o) b′ s′ m =
-    let e = sym (m .1 .numbers) in
-    record {
-      vs = v;
-      out = o;
-      is = ap (λ (z : monad.Counters). done v z o) e;
-      many = m .0;
-      left = subst (λ (z : monad.Counters). Left b s (preorders v) z o b′ s′) e (m .1);
-    }
-list-case t b s (refused k l) b′ s′ m = absurd m
-
-pub list-done : {t : ℕ} {b : Bufs} {s : State} {o : Outcome Values} {b′ : Bufs} {r : Listed} {s′ : State}
-    → MeetsList t b s o b′ r → r ≡ Listed.Done s′ → DoneList t b s o b′ s′
-list-done {t} {b} {s} {o} {b′} {r} {s′} m e = list-case t b s o b′ s′ (subst (λ (z : Listed). case-list t b s o b′ z) e (m .shown))
-
-list-stop : (t : ℕ) (b : Bufs) (s : State) (o : Outcome Values) (b′ : Bufs) (m k : ℕ) → case-list t b s o b′ (Listed.Refused m k) → o ≡ refused m k
-list-stop t b s (done v cs o) b′ m k h = absurd h
-list-stop t b s (refused m′ k′) b′ m k h = rw (h .0, h .1)
-
-pub list-refused : {t : ℕ} {b : Bufs} {s : State} {o : Outcome Values} {b′ : Bufs} {r : Listed} {m k : ℕ}
-    → MeetsList t b s o b′ r → r ≡ Listed.Refused m k → o ≡ refused m k
-list-refused {t} {b} {s} {o} {b′} {r} {m} {k} h e = list-stop t b s o b′ m k (subst (λ (z : Listed). case-list t b s o b′ z) e (h .shown))

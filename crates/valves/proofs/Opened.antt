@@ -28,7 +28,6 @@ use Rattle.valves.specs.Tickets.{bytes-for, ticket-text, on-board, eight
 use Rattle.valves.specs.declared.Answer.{Answer}
 use Rattle.valves.specs.Opening.{tables, held, Opens}
 use Rattle.valves.proofs.Reading.{reads}
-use Rattle.valves.proofs.Lowered.{Lowers, lowers}
 use Rattle.valves.proofs.Bits.{map-small, or-opens}
 
 -- ---------------------------------------------------------------- the expression
@@ -123,10 +122,6 @@ module _ (N : ℕ) (o : Option (List ℕ)) (t : List ℕ) (d : Made N o t) where
 
   pub made-reads : read-ticket t ≡ reading.accepted (tables N (map-number (d .valves)))
   made-reads = rw (d .is) (reads N (map-number (d .valves)) (d .low) (d .high) map-64)
-
-  -- lowering refuses it only for want of room
-  pub made-lowers : Lowers t
-  made-lowers = rw (d .is) (lowers N (map-number (d .valves)) (d .low) (d .high) map-64)
 
   -- the value is the OR, and its valves are those named and those that were open
   pub opens : (buffer s : List ℕ) → answer t (length buffer) ≡ accepted s → (G : Given) (M : Memory) → Proper M → held M N < 2 ^ N → Opens N (d .valves) G M s

@@ -1,4 +1,4 @@
--- `addressing::allocate_pointer` meets its contract: a storage of two bytes. Assumes nothing.
+-- `addressing::allocate_pointer` meets its contract: a storage of two bytes.
 use borrow.Author.Needs.{needs}
 use native.Mathlib.Omega.{arith}
 use Rattle.emission.specs.Temporaries.{place-bytes}

@@ -1,4 +1,4 @@
--- `arithmetic::fill` meets its contract: the instructions, and then the mask. Assumes nothing.
+-- `arithmetic::fill` meets its contract: the instructions, and then the mask.
 use borrow.Author.Needs.{needs}
 use native.Mathlib.Omega.{arith}
 use Rattle.emission.specs.Appends.{room-less}

@@ -1,4 +1,4 @@
--- `arithmetic::fill_temporary` meets its contract: a new storage, filled, or the first refusal. Assumes nothing.
+-- `arithmetic::fill_temporary` meets its contract: a new storage, filled, or the first refusal.
 use borrow.Author.Needs.{needs}
 use native.Mathlib.Omega.{arith}
 use Rattle.emission.specs.Appends.{room-less}

@@ -1,4 +1,4 @@
--- `arithmetic::instructions` meets its contract: by the operation. Assumes nothing.
+-- `arithmetic::instructions` meets its contract: by the operation.
 use borrow.Author.Needs.{needs}
 use Rattle.arithmetic.proofs.instructions.Statement.{statement}
 use Rattle.arithmetic.proofs.instructions.Tie as tie

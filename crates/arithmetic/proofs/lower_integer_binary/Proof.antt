@@ -1,4 +1,4 @@
--- `arithmetic::lower_integer_binary` meets its contract: the operands' bytes, the left first, and then the operation. Assumes nothing.
+-- `arithmetic::lower_integer_binary` meets its contract: the operands' bytes, the left first, and then the operation.
 use borrow.Author.Needs.{needs}
 use Rattle.reads.specs.Reading.{at-of}
 use Rattle.steps.proofs.Laws.{value-stops}

@@ -1,4 +1,4 @@
--- `arithmetic::lower_integer_unary` meets its contract: the operand's bytes, and then the operation. Assumes nothing.
+-- `arithmetic::lower_integer_unary` meets its contract: the operand's bytes, and then the operation.
 use borrow.Author.Needs.{needs}
 use Rattle.reads.specs.Reading.{at-of}
 use Rattle.steps.proofs.Laws.{value-stops}

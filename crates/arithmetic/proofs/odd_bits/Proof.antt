@@ -1,4 +1,4 @@
--- `arithmetic::odd_bits` meets its contract: what the width leaves of whole bytes. Assumes nothing.
+-- `arithmetic::odd_bits` meets its contract: what the width leaves of whole bytes.
 use borrow.Author.Needs.{needs}
 use native.Mathlib.Omega.{arith}
 use Rattle.arithmetic.proofs.Laws.{odd-none, odd-found}

@@ -1,4 +1,4 @@
--- `arithmetic::operate` meets its contract: a filled temporary, and then its value. Assumes nothing.
+-- `arithmetic::operate` meets its contract: a filled temporary, and then its value.
 use borrow.Author.Needs.{needs}
 use mathlib.Core.Path.{sym, _∙_}
 use Rattle.tables.proofs.Laws.{size-here, readable-sized}

@@ -1,4 +1,4 @@
--- `arithmetic::unary_form` meets its contract: each number picks its place in the list, and any other is past its end. Assumes nothing.
+-- `arithmetic::unary_form` meets its contract: each number picks its place in the list, and any other is past its end.
 use borrow.Author.Needs.{zero≤}
 use mathlib.Core.Path.{ap}
 use Rattle.spec.specs.Operators.{unary-form}

@@ -1,4 +1,4 @@
--- The definition, step by step. Assumes nothing.
+-- The definition, step by step.
 use borrow.Author.Needs.{needs}
 use Rattle.blocks.specs.Words.{apart, exchanged}
 use mathlib.Core.Path.{refl}

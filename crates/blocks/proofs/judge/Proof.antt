@@ -1,4 +1,4 @@
--- Each answer follows from the two tests. Assumes nothing.
+-- Each answer follows from the two tests.
 use borrow.Author.Tests.{eq-eqb, ne-eqb, le-leb, lt-leb}
 use Rattle.blocks.specs.Shown.{Judged}
 use Rattle.blocks.proofs.judge.Statement.{statement}

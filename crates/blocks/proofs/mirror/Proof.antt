@@ -1,4 +1,4 @@
--- The table is right by one computed test of all its entries; the lengths decide the rest. Assumes nothing.
+-- The table is right by one computed test of all its entries; the lengths decide the rest.
 use borrow.Author.Needs.{needs}
 use mathlib.Core.Path.{refl}
 use Rattle.blocks.specs.Blocks.{bit, packed, mirrored, all-mirrored}

@@ -1,4 +1,4 @@
--- The invariant: the first k bytes are mirrored, those behind them as before. Assumes nothing.
+-- The invariant: the first k bytes are mirrored, those behind them as before.
 use native.Mathlib.Omega.{arith}
 use Rattle.blocks.proofs.Filling.{Filled, filled-none, filled-more, filled-all}
 use lib.ListN.{length, getD}

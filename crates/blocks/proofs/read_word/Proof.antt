@@ -1,4 +1,4 @@
--- The invariant: the bytes from i on are in the word. Assumes nothing.
+-- The invariant: the bytes from i on are in the word.
 use native.Mathlib.Omega.{arith}
 use borrow.Author.Needs.{needs}
 use Rattle.blocks.proofs.Words.{Read, read-none, read-more, read-all, read-fits, inside}

@@ -1,4 +1,4 @@
--- The invariant: the bytes of the first t squares are transposed back, all others as before. Assumes nothing.
+-- The invariant: the bytes of the first t squares are transposed back, all others as before.
 use native.Mathlib.Omega.{arith}
 use borrow.Author.Needs.{needs}
 use Rattle.blocks.proofs.Squares.{Squares, squares-none, squares-all}

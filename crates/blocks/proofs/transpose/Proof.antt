@@ -1,4 +1,4 @@
--- The lengths decide, and the blocks are transposed. Assumes nothing.
+-- The lengths decide, and the blocks are transposed.
 use borrow.Author.Needs.{needs}
 use Rattle.blocks.specs.Blocks.{transposed}
 use Rattle.blocks.proofs.Inverse.{length-transposed}

@@ -1,4 +1,4 @@
--- The lengths decide, and the blocks are transposed back. Assumes nothing.
+-- The lengths decide, and the blocks are transposed back.
 use borrow.Author.Needs.{needs}
 use Rattle.blocks.specs.Blocks.{transposed-back}
 use Rattle.blocks.proofs.Inverse.{length-transposed-back}

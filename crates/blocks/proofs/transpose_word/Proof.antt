@@ -1,4 +1,4 @@
--- The three exchanges of the definition. Assumes nothing.
+-- The three exchanges of the definition.
 use borrow.Author.Needs.{needs}
 use Rattle.blocks.specs.Words.{transposed-word}
 use Rattle.blocks.proofs.transpose_word.Statement.{statement}

@@ -1,4 +1,4 @@
--- The invariant: the first i bytes of the word are in their places, all others as before. Assumes nothing.
+-- The invariant: the first i bytes of the word are in their places, all others as before.
 use native.Mathlib.Omega.{arith}
 use Rattle.blocks.specs.Words.{Spread}
 use Rattle.blocks.proofs.Words.{spread-none, spread-more, inside}

@@ -1,4 +1,4 @@
--- `holds_of` lends parts that are there. Assumes nothing.
+-- `holds_of` lends parts that are there.
 use borrow.Author.Needs.{needs}
 use mathlib.Core.Path.{sym}
 use native.Mathlib.Omega.{arith}

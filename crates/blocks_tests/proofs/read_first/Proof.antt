@@ -1,4 +1,4 @@
--- `read_first` lends a part that is there. Assumes nothing.
+-- `read_first` lends a part that is there.
 use borrow.Author.Needs.{needs}
 use mathlib.Core.Path.{sym}
 use native.Mathlib.Omega.{arith}

@@ -1,4 +1,4 @@
--- `same` reads inside both slices: they are of one length. Assumes nothing.
+-- `same` reads inside both slices: they are of one length.
 use mathlib.Core.Path.{_≡_}
 use Prim.Native.Nat.{_-_}
 use lib.ListN.{length}

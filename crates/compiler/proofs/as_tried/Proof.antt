@@ -1,4 +1,4 @@
--- Case by case. Assumes nothing.
+-- Case by case.
 use borrow.Author.Needs.{needs}
 use Rattle.compiler.proofs.as_tried.Statement.{statement}
 use Rattle.compiler.proofs.as_tried.Tie as tie

@@ -1,4 +1,4 @@
--- The invariant: the words before i are 0. Assumes nothing.
+-- The invariant: the words before i are 0.
 use Prim.Native.Nat.{_-_}
 use native.Mathlib.Omega.{arith}
 use borrow.Author.Needs.{needs}

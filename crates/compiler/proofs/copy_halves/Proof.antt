@@ -1,4 +1,4 @@
--- One slice behind the other. Assumes nothing.
+-- One slice behind the other.
 use borrow.Author.Needs.{needs}
 use native.Mathlib.Omega.{arith}
 use mathlib.Core.Path.{sym, ap, _∙_}

@@ -1,4 +1,4 @@
--- The larger number, or the sum. Assumes nothing.
+-- The larger number, or the sum.
 use borrow.Author.Needs.{needs}
 use native.Mathlib.Omega.{arith}
 use Rattle.text.specs.Put.{sat}

@@ -1,4 +1,4 @@
--- Its own arrays are enough for every ticket. Assumes nothing.
+-- Its own arrays are enough for every ticket.
 use borrow.Author.Needs.{needs}
 use Prim.Native.Nat.{ℕ}
 use native.Mathlib.Omega.{arith}
@@ -6,9 +6,6 @@ use lib.ListN.{length, replicate, length-replicate}
 use Rattle.compiler.proofs.Laws.{tried-refused, tried-accepted, tried-short, never-short}
 use Rattle.compiler.proofs.lower.Statement.{statement}
 use Rattle.compiler.proofs.lower.Tie as tie
-use Rattle.compiler.proofs.lower.Reads as reads
-use Rattle.compiler.proofs.lower.Lts as lts
-use Rattle.compiler.proofs.lower_in.Reads as lower-in-reads
 
 slice-aggregate-lower-in : tie.Need-slice-aggregate-lower-in
 slice-aggregate-lower-in c = search needs

@@ -1,4 +1,4 @@
--- Where marks and records are enough, the answer. Assumes nothing.
+-- Where marks and records are enough, the answer.
 use borrow.Author.Needs.{needs}
 use mathlib.Core.Path.{refl, sym}
 use mathlib.Core.Logic.{inl, inr, ⊎-elim}
@@ -7,11 +7,6 @@ use lib.Seq.{length-take-le}
 use Rattle.compiler.proofs.Laws.{storage-count, ready-lent, tries-answer}
 use Rattle.compiler.proofs.lower_counted.Statement.{statement}
 use Rattle.compiler.proofs.lower_counted.Tie as tie
-use Rattle.compiler.proofs.lower_counted.Reads as reads
-use Rattle.compiler.proofs.lower_counted.Lts as lts
-use Rattle.compiler.proofs.as_tried.Reads as as-tried-reads
-use Rattle.compiler.proofs.lower_marked.Reads as lower-marked-reads
-use Rattle.compiler.proofs.weights.Reads as weights-reads
 
 returns : tie.Need-returns
 returns c = let a = c .before .before .before .before .before .before .before .before .before .args in record { shown = (inr (inl (omega (arith, c .if1 .taken, storage-count (a .rows .now) (a .nodes .now) (a .lists .now) (a .counts)))), refl) }

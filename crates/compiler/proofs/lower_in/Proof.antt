@@ -1,4 +1,4 @@
--- A text that is too long is refused unread; then the lists and the rows are enough to begin, or too few. Assumes nothing.
+-- A text that is too long is refused unread; then the lists and the rows are enough to begin, or too few.
 use borrow.Author.Needs.{needs}
 use mathlib.Core.Path.{refl}
 use mathlib.Core.Logic.{inl, inr, ⊎-elim}
@@ -6,10 +6,6 @@ use native.Mathlib.Omega.{arith}
 use Rattle.compiler.proofs.Laws.{answer-unread, text-too-long, tries-for, unread-few}
 use Rattle.compiler.proofs.lower_in.Statement.{statement}
 use Rattle.compiler.proofs.lower_in.Tie as tie
-use Rattle.compiler.proofs.lower_in.Reads as reads
-use Rattle.compiler.proofs.lower_in.Lts as lts
-use Rattle.compiler.proofs.clear_keys.Reads as clear-keys-reads
-use Rattle.compiler.proofs.lower_with.Reads as lower-with-reads
 
 returns : tie.Need-returns
 returns c = let a = c .before .before .before .before .before .before .before .before .before .args in let e = text-too-long (a .ticket .now) (c .if1 .taken) in record { shown = ((λ w. ⊎-elim (λ x. omega (arith, x .0, c .if1 .taken)) (unread-few e) w), answer-unread (a .ticket .now) _ _ 1 0 e) }

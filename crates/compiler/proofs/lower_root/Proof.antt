@@ -1,4 +1,4 @@
--- The root's tree has its room, and its lowering is the ticket's. Assumes nothing.
+-- The root's tree has its room, and its lowering is the ticket's.
 use borrow.Author.Needs.{needs}
 use Rattle.compiler.proofs.Laws.{some-node, root-ready, root-meets}
 use Rattle.compiler.proofs.lower_root.Statement.{statement}

@@ -1,11 +1,8 @@
--- The rows from the nodes on. Assumes nothing.
+-- The rows from the nodes on.
 use borrow.Author.Needs.{needs}
 use Rattle.compiler.proofs.Laws.{rest-is}
 use Rattle.compiler.proofs.lower_rows.Statement.{statement}
 use Rattle.compiler.proofs.lower_rows.Tie as tie
-use Rattle.compiler.proofs.lower_rows.Reads as reads
-use Rattle.compiler.proofs.lower_rows.Lts as lts
-use Rattle.compiler.proofs.lower_counted.Reads as lower-counted-reads
 
 sub-nodes : tie.Need-sub-nodes
 sub-nodes c = search needs

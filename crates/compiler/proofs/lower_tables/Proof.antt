@@ -1,4 +1,4 @@
--- The answer by the outcome, and by the room. Assumes nothing.
+-- The answer by the outcome, and by the room.
 use borrow.Author.Needs.{needs}
 use native.Mathlib.Omega.{arith}
 use Rattle.tables.specs.Tables.{tables-of}

@@ -1,4 +1,4 @@
--- The answer by what is read, or that words are too few. Assumes nothing.
+-- The answer by what is read, or that words are too few.
 use borrow.Author.Needs.{needs}
 use mathlib.Core.Path.{refl}
 use mathlib.Core.Logic.{inl}
@@ -7,10 +7,6 @@ use lib.ListN.{length}
 use Rattle.compiler.proofs.Laws.{text-read, answer-unread, read-refused, read-accepted, read-no-room, tries-read, unread-few}
 use Rattle.compiler.proofs.lower_with.Statement.{statement}
 use Rattle.compiler.proofs.lower_with.Tie as tie
-use Rattle.compiler.proofs.lower_with.Reads as reads
-use Rattle.compiler.proofs.lower_with.Lts as lts
-use Rattle.compiler.proofs.lower_rows.Reads as lower-rows-reads
-use Rattle.ticket.proofs.reading.read_ticket.Reads as read-ticket-reads
 
 read-ticket-requires : tie.Need-read-ticket-requires
 read-ticket-requires c κs = search needs

@@ -1,4 +1,4 @@
--- The sections and halves by what the run leaves, or its refusal. Assumes nothing.
+-- The sections and halves by what the run leaves, or its refusal.
 use borrow.Author.Needs.{needs}
 use Rattle.tables.specs.Tables.{tables-of}
 use Rattle.values.specs.Left.{value-done, value-refused}

@@ -1,4 +1,4 @@
--- The weight of the node's type. Assumes nothing.
+-- The weight of the node's type.
 use borrow.Author.Needs.{needs}
 use Rattle.compiler.proofs.Laws.{weight-is}
 use Rattle.compiler.proofs.node_weight.Statement.{statement}

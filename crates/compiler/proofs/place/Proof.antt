@@ -1,4 +1,4 @@
--- From the halves where they have room, else by further runs. Assumes nothing.
+-- From the halves where they have room, else by further runs.
 use borrow.Author.Needs.{needs}
 use borrow.Author.Tests.{leb-true}
 use Prim.Native.Nat.{_-_}

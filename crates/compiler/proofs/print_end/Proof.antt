@@ -1,4 +1,4 @@
--- The value's lines, and then the last. Assumes nothing.
+-- The value's lines, and then the last.
 use borrow.Author.Needs.{needs}
 use Rattle.text.specs.Put.{then}
 use Rattle.compiler.proofs.print_end.Statement.{statement}

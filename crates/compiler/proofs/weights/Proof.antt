@@ -1,4 +1,4 @@
--- The invariant: the sum so far and what is left of it are the whole. Assumes nothing.
+-- The invariant: the sum so far and what is left of it are the whole.
 use borrow.Author.Needs.{needs}
 use native.Mathlib.Omega.{arith}
 use Prim.Native.Nat.{_-_}

@@ -1,4 +1,4 @@
--- The four sections, one behind the other. Assumes nothing.
+-- The four sections, one behind the other.
 use borrow.Author.Needs.{needs}
 use native.Mathlib.Omega.{arith}
 use mathlib.Core.Path.{_∙_}

@@ -1,4 +1,4 @@
--- A run over a part of the buffer. Assumes nothing.
+-- A run over a part of the buffer.
 use borrow.Author.Needs.{needs}
 use Rattle.tables.specs.Tables.{tables-of}
 use Rattle.compiler.proofs.Laws.{code-put}

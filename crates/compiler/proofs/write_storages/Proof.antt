@@ -1,4 +1,4 @@
--- A run over the buffer's front alone. Assumes nothing.
+-- A run over the buffer's front alone.
 use borrow.Author.Needs.{needs}
 use mathlib.Core.Path.{sym}
 use lib.Seq.{length-take-le}

@@ -1,4 +1,4 @@
--- `conversions::boolean_to_integer` meets its contract: the bit in a new temporary, or the refusal. Assumes nothing.
+-- `conversions::boolean_to_integer` meets its contract: the bit in a new temporary, or the refusal.
 use borrow.Author.Needs.{needs}
 use Rattle.reads.specs.Reading.{at-of}
 use Rattle.steps.proofs.Pointers.{meets-as}

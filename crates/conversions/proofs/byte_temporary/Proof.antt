@@ -1,4 +1,4 @@
--- `conversions::byte_temporary` meets its contract: a Bool's is refused. Assumes nothing.
+-- `conversions::byte_temporary` meets its contract: a Bool's is refused.
 use borrow.Author.Needs.{needs}
 use Rattle.conversions.proofs.Laws.{byte-bool, byte-meets}
 use Rattle.conversions.proofs.byte_temporary.Statement.{statement}

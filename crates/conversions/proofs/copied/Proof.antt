@@ -1,4 +1,4 @@
--- `conversions::copied` meets its contract: the copies, and then mask and reading. Assumes nothing.
+-- `conversions::copied` meets its contract: the copies, and then mask and reading.
 use borrow.Author.Needs.{needs}
 use native.Mathlib.Omega.{arith}
 use Rattle.reads.specs.Reading.{at-of}

@@ -1,4 +1,4 @@
--- `conversions::copied_new` meets its contract: a new temporary, or its refusal. Assumes nothing.
+-- `conversions::copied_new` meets its contract: a new temporary, or its refusal.
 use borrow.Author.Needs.{needs}
 use native.Mathlib.Omega.{arith}
 use Rattle.emission.specs.Temporaries.{temporary-placed, temporary-refused}

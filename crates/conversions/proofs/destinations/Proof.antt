@@ -1,4 +1,4 @@
--- `conversions::destinations` meets its contract: as many bytes as the type's size. Assumes nothing.
+-- `conversions::destinations` meets its contract: as many bytes as the type's size.
 use Rattle.tables.proofs.Laws.{readable-sized}
 use Rattle.conversions.proofs.Laws.{fills}
 use Rattle.conversions.proofs.destinations.Statement.{statement}

@@ -1,4 +1,4 @@
--- `conversions::extended` meets its contract: the instruction, and then mask and reading. Assumes nothing.
+-- `conversions::extended` meets its contract: the instruction, and then mask and reading.
 use borrow.Author.Needs.{needs}
 use native.Mathlib.Omega.{arith}
 use Rattle.reads.specs.Reading.{at-of}

@@ -1,4 +1,4 @@
--- `conversions::extended_new` meets its contract: a new temporary, or its refusal. Assumes nothing.
+-- `conversions::extended_new` meets its contract: a new temporary, or its refusal.
 use borrow.Author.Needs.{needs}
 use native.Mathlib.Omega.{arith}
 use Rattle.emission.specs.Temporaries.{temporary-placed, temporary-refused}

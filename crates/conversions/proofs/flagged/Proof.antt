@@ -1,4 +1,4 @@
--- `conversions::flagged` meets its contract: the bit and zeros, and then the reading. Assumes nothing.
+-- `conversions::flagged` meets its contract: the bit and zeros, and then the reading.
 use borrow.Author.Needs.{needs}
 use native.Mathlib.Omega.{arith}
 use Rattle.reads.specs.Reading.{at-of}

@@ -1,4 +1,4 @@
--- `conversions::is_reinterpret` meets its contract: form by form. Assumes nothing.
+-- `conversions::is_reinterpret` meets its contract: form by form.
 use borrow.Author.Needs.{needs}
 use mathlib.Core.Path.{ap}
 use Rattle.conversions.proofs.Laws.{is-reinterpreting, reinterprets}

@@ -1,4 +1,4 @@
--- `conversions::lower_conversion` meets its contract: form by form. Assumes nothing.
+-- `conversions::lower_conversion` meets its contract: form by form.
 use borrow.Author.Needs.{needs}
 use native.Mathlib.Omega.{arith}
 use Rattle.reads.specs.Reading.{at-of}

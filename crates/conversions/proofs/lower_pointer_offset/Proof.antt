@@ -1,4 +1,4 @@
--- `conversions::lower_pointer_offset` meets its contract: the base's bytes, then the offset's. Assumes nothing.
+-- `conversions::lower_pointer_offset` meets its contract: the base's bytes, then the offset's.
 use borrow.Author.Needs.{needs}
 use Rattle.reads.specs.Reading.{at-of}
 use Rattle.steps.proofs.Pointers.{meets-as}

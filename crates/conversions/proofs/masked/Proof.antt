@@ -1,4 +1,4 @@
--- `conversions::masked` meets its contract: the mask, and then the reading. Assumes nothing.
+-- `conversions::masked` meets its contract: the mask, and then the reading.
 use borrow.Author.Needs.{needs}
 use native.Mathlib.Omega.{arith}
 use Rattle.reads.specs.Reading.{at-of}

@@ -1,4 +1,4 @@
--- `conversions::normalized_bytes` meets its contract: the bytes themselves, or a masked copy. Assumes nothing.
+-- `conversions::normalized_bytes` meets its contract: the bytes themselves, or a masked copy.
 use borrow.Author.Needs.{needs}
 use native.Mathlib.Omega.{arith}
 use Rattle.reads.specs.Reading.{at-of}

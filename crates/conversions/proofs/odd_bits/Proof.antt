@@ -1,4 +1,4 @@
--- `conversions::odd_bits` meets its contract: a width's rest by 8. Assumes nothing.
+-- `conversions::odd_bits` meets its contract: a width's rest by 8.
 use borrow.Author.Needs.{needs}
 use native.Mathlib.Omega.{arith}
 use Rattle.emission.specs.Forms.{odd-width}

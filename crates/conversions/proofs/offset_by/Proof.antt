@@ -1,4 +1,4 @@
--- `conversions::offset_by` meets its contract: a pointer, a carry, and two sums. Assumes nothing.
+-- `conversions::offset_by` meets its contract: a pointer, a carry, and two sums.
 use borrow.Author.Needs.{needs}
 use native.Mathlib.Omega.{arith}
 use Rattle.conversions.proofs.Pointers.{offset-meets}

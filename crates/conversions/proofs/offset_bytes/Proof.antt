@@ -1,4 +1,4 @@
--- `conversions::offset_bytes` meets its contract: a base of two bytes at least. Assumes nothing.
+-- `conversions::offset_bytes` meets its contract: a base of two bytes at least.
 use borrow.Author.Needs.{needs}
 use native.Mathlib.Omega.{arith}
 use Rattle.reads.specs.Reading.{at-of}

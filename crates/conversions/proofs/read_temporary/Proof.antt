@@ -1,4 +1,4 @@
--- `conversions::read_temporary` meets its contract: the whole of a storage, read. Assumes nothing.
+-- `conversions::read_temporary` meets its contract: the whole of a storage, read.
 use borrow.Author.Needs.{needs}
 use Rattle.conversions.proofs.Laws.{room-read}
 use Rattle.conversions.proofs.read_temporary.Statement.{statement}

@@ -1,4 +1,4 @@
--- `conversions::reinterpreted` meets its contract: by the two sizes. Assumes nothing.
+-- `conversions::reinterpreted` meets its contract: by the two sizes.
 use borrow.Author.Needs.{needs}
 use Rattle.conversions.proofs.Laws.{reinterpret-refused, reinterpret-done}
 use Rattle.conversions.proofs.reinterpreted.Statement.{statement}

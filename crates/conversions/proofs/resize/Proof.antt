@@ -1,4 +1,4 @@
--- `conversions::resize` meets its contract: the run ends with the bytes, or before them. Assumes nothing.
+-- `conversions::resize` meets its contract: the run ends with the bytes, or before them.
 use native.Mathlib.Omega.{arith}
 use Rattle.conversions.proofs.Laws.{resizes-run, resizes-all}
 use Rattle.conversions.proofs.resize.Statement.{statement}

@@ -1,4 +1,4 @@
--- `conversions::resized` meets its contract: the bytes at the type's size, or the refusal. Assumes nothing.
+-- `conversions::resized` meets its contract: the bytes at the type's size, or the refusal.
 use borrow.Author.Needs.{needs}
 use Rattle.reads.specs.Reading.{at-of}
 use Rattle.tables.proofs.Laws.{readable-sized}

@@ -1,4 +1,4 @@
--- `conversions::sign_extended` meets its contract: the width, then the bytes, then the temporary. Assumes nothing.
+-- `conversions::sign_extended` meets its contract: the width, then the bytes, then the temporary.
 use borrow.Author.Needs.{needs}
 use Rattle.reads.specs.Reading.{at-of}
 use Rattle.steps.proofs.Pointers.{meets-as}

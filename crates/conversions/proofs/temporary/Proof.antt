@@ -1,4 +1,4 @@
--- `conversions::temporary` meets its contract: of the type's size. Assumes nothing.
+-- `conversions::temporary` meets its contract: of the type's size.
 use borrow.Author.Needs.{needs}
 use mathlib.Core.Path.{sym, _∙_}
 use Rattle.tables.proofs.Laws.{readable-sized, size-here}

@@ -1,4 +1,4 @@
--- `conversions::width` meets its contract: of these tables. Assumes nothing.
+-- `conversions::width` meets its contract: of these tables.
 use Rattle.tables.proofs.Laws.{readable-sized}
 use Rattle.conversions.proofs.width.Statement.{statement}
 use Rattle.conversions.proofs.width.Tie as tie

@@ -1,5 +1,4 @@
 -- `emission::add` meets its contract: a carry, then the loop.
-use Prim.Native.Nat.{_-_}
 use borrow.Author.Needs.{needs}
 use Rattle.emission.specs.Forms.{does-adding}
 use Rattle.emission.proofs.add.Statement.{statement}

@@ -1,5 +1,4 @@
 -- `emission::add_bytes` meets its contract: the definition's list is a table of the form `Add`.
-use Prim.Native.Nat.{_-_}
 use borrow.Author.Needs.{needs}
 use Rattle.emission.specs.Loops.{adds-table}
 use Rattle.emission.proofs.add_bytes.Statement.{statement}

@@ -1,5 +1,4 @@
 -- `emission::allocate_bit_temporary` meets its contract: by `allocate_storage`.
-use Prim.Native.Nat.{_-_}
 use borrow.Author.Needs.{needs}
 use Rattle.spec.specs.Allocation.{allocate-bit-temporary}
 use Rattle.emission.proofs.allocate_bit_temporary.Statement.{statement}

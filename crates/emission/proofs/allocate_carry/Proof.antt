@@ -1,5 +1,4 @@
 -- `emission::allocate_carry` meets its contract: by `allocate_storage`.
-use Prim.Native.Nat.{_-_}
 use borrow.Author.Needs.{needs}
 use Rattle.spec.specs.Allocation.{allocate-carry}
 use Rattle.emission.proofs.allocate_carry.Statement.{statement}

@@ -1,6 +1,5 @@
 -- `emission::allocate_temporary` meets its contract: by the type's number and size.
 use mathlib.Core.Path.{_∙_}
-use Prim.Native.Nat.{_-_}
 use borrow.Author.Needs.{needs}
 use Rattle.emission.specs.Temporaries.{place-bit, place-sized, place-byte, place-bytes, place-none}
 use Rattle.emission.proofs.allocate_temporary.Statement.{statement}

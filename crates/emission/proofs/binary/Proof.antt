@@ -1,6 +1,5 @@
 -- `emission::binary` meets its contract: refused without a width.
-use mathlib.Core.List.{[], _∷_}
-use Prim.Native.Nat.{_-_}
+use mathlib.Core.List.{_∷_}
 use native.Mathlib.Omega.{arith}
 use borrow.Author.Needs.{needs}
 use Rattle.spec.specs.Arithmetic.{binary-instructions}

@@ -1,5 +1,4 @@
 -- `emission::binary_bytes` meets its contract: the definition's list is a table of the form `Binary`.
-use Prim.Native.Nat.{_-_}
 use borrow.Author.Needs.{needs}
 use Rattle.emission.specs.Loops.{binary-table}
 use Rattle.emission.proofs.binary_bytes.Statement.{statement}

@@ -1,5 +1,4 @@
 -- `emission::bit_to_bytes` meets its contract: the definition's list is a table of the form `Bit`.
-use Prim.Native.Nat.{_-_}
 use borrow.Author.Needs.{needs}
 use Rattle.emission.specs.Loops.{bit-table}
 use Rattle.emission.proofs.bit_to_bytes.Statement.{statement}

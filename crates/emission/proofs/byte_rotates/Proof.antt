@@ -1,5 +1,4 @@
 -- `emission::byte_rotates` meets its contract: by the shorter way round.
-use Prim.Native.Nat.{_-_}
 use borrow.Author.Needs.{needs}
 use Rattle.emission.specs.Loops.{turn-none, turn-few, turn-back}
 use Rattle.emission.proofs.byte_rotates.Statement.{statement}

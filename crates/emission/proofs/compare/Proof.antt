@@ -1,5 +1,4 @@
 -- `emission::compare` meets its contract: a bit, then the instruction.
-use Prim.Native.Nat.{_-_}
 use borrow.Author.Needs.{needs}
 use Rattle.lir.specs.Abstract.{compare-op-of, bytes-of}
 use Rattle.emission.specs.Forms.{does-comparing}

@@ -1,5 +1,4 @@
 -- `emission::copy_byte` meets its contract: the instruction made is the definition's.
-use Prim.Native.Nat.{_-_}
 use borrow.Author.Needs.{needs}
 use Rattle.emission.proofs.copy_byte.Statement.{statement}
 use Rattle.emission.proofs.copy_byte.Tie as tie

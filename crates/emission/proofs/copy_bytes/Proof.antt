@@ -1,5 +1,4 @@
 -- `emission::copy_bytes` meets its contract: the definition's list is a table of the form `Copy`.
-use Prim.Native.Nat.{_-_}
 use borrow.Author.Needs.{needs}
 use Rattle.emission.specs.Loops.{copy-table}
 use Rattle.emission.proofs.copy_bytes.Statement.{statement}

@@ -1,6 +1,5 @@
 -- `emission::emit` meets its contract: the line printed is the instruction's.
 use mathlib.Core.Path.{refl}
-use Prim.Native.Nat.{_-_}
 use borrow.Author.Needs.{needs}
 use Rattle.lir.specs.Abstract.{kind-of}
 use Rattle.emission.specs.Emits.{emits-one}

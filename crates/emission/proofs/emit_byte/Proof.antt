@@ -1,5 +1,4 @@
 -- `emission::emit_byte` meets its contract: the instruction made is the form's.
-use Prim.Native.Nat.{_-_}
 use borrow.Author.Needs.{needs}
 use Rattle.emission.proofs.emit_byte.Statement.{statement}
 use Rattle.emission.proofs.emit_byte.Tie as tie

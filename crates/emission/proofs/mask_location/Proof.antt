@@ -1,5 +1,4 @@
 -- `emission::mask_location` meets its contract: nothing, or one instruction at the last byte.
-use Prim.Native.Nat.{_-_}
 use native.Mathlib.Omega.{arith}
 use borrow.Author.Needs.{needs}
 use Rattle.emission.specs.Emits.{emits-none}

@@ -1,5 +1,4 @@
 -- `emission::negate` meets its contract: a borrow, then the loop.
-use Prim.Native.Nat.{_-_}
 use borrow.Author.Needs.{needs}
 use Rattle.emission.specs.Forms.{does-negating}
 use Rattle.emission.proofs.negate.Statement.{statement}

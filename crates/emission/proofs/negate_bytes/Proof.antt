@@ -1,5 +1,4 @@
 -- `emission::negate_bytes` meets its contract: the definition's list is a table of the form `Subtract`, from zeros.
-use Prim.Native.Nat.{_-_}
 use native.Mathlib.Omega.{arith}
 use borrow.Author.Needs.{needs}
 use Rattle.emission.specs.Loops.{negates-table}

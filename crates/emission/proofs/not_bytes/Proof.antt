@@ -1,5 +1,4 @@
 -- `emission::not_bytes` meets its contract: the definition's list is a table of the form `Not`.
-use Prim.Native.Nat.{_-_}
 use borrow.Author.Needs.{needs}
 use Rattle.emission.specs.Loops.{not-table}
 use Rattle.emission.proofs.not_bytes.Statement.{statement}

@@ -1,5 +1,4 @@
 -- `emission::not_zero` meets its contract: a bit, then the comparison with zeros.
-use Prim.Native.Nat.{_-_}
 use native.Mathlib.Omega.{arith}
 use borrow.Author.Needs.{needs}
 use Rattle.lir.specs.Abstract.{purpose-of}

@@ -1,5 +1,4 @@
 -- `emission::rotate_by_constant` meets its contract: the operand and the distance are the first bytes.
-use Prim.Native.Nat.{_-_}
 use borrow.Author.Needs.{needs}
 use Rattle.emission.specs.Operands.{first-byte}
 use Rattle.emission.proofs.rotate_by_constant.Statement.{statement}

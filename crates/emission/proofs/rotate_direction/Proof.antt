@@ -1,5 +1,4 @@
 -- `emission::rotate_direction` meets its contract: case by case.
-use Prim.Native.Nat.{_-_}
 use borrow.Author.Needs.{needs}
 use Rattle.spec.specs.Operators.{rotate-direction}
 use Rattle.emission.proofs.rotate_direction.Statement.{statement}

@@ -1,5 +1,4 @@
 -- `emission::shift` meets its contract: refused without a width.
-use Prim.Native.Nat.{_-_}
 use native.Mathlib.Omega.{arith}
 use borrow.Author.Needs.{needs}
 use Rattle.spec.specs.Arithmetic.{binary-instructions, shifts}

@@ -1,6 +1,5 @@
 -- `emission::shift_bytes` meets its contract: by whether it is a rotate.
 use mathlib.Core.Path.{sym, ap, _∙_}
-use Prim.Native.Nat.{_-_}
 use borrow.Author.Needs.{needs}
 use Rattle.emission.specs.Loops.{shift-plain}
 use Rattle.emission.specs.Kinds.{turned-of}

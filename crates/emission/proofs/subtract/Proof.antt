@@ -1,5 +1,4 @@
 -- `emission::subtract` meets its contract: a borrow, then the loop.
-use Prim.Native.Nat.{_-_}
 use borrow.Author.Needs.{needs}
 use Rattle.emission.specs.Forms.{does-subtracting}
 use Rattle.emission.proofs.subtract.Statement.{statement}

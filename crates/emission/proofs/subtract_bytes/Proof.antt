@@ -1,5 +1,4 @@
 -- `emission::subtract_bytes` meets its contract: the definition's list is a table of the form `Subtract`.
-use Prim.Native.Nat.{_-_}
 use borrow.Author.Needs.{needs}
 use Rattle.emission.specs.Loops.{subtracts-table}
 use Rattle.emission.proofs.subtract_bytes.Statement.{statement}

@@ -1,5 +1,4 @@
 -- `emission::turn_byte` meets its contract: a turn of the first byte.
-use Prim.Native.Nat.{_-_}
 use borrow.Author.Needs.{needs}
 use Rattle.emission.proofs.turn_byte.Statement.{statement}
 use Rattle.emission.proofs.turn_byte.Tie as tie

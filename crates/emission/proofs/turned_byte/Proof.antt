@@ -1,5 +1,4 @@
 -- `emission::turned_byte` meets its contract: by whether it is the first turn.
-use Prim.Native.Nat.{_-_}
 use borrow.Author.Tests.{eq-eqb, ne-eqb}
 use Rattle.emission.proofs.turned_byte.Statement.{statement}
 use Rattle.emission.proofs.turned_byte.Tie as tie

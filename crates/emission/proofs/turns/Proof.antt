@@ -1,5 +1,4 @@
 -- `emission::turns` meets its contract: the definition's list is a table of the form `Turn`.
-use Prim.Native.Nat.{_-_}
 use borrow.Author.Needs.{needs}
 use Rattle.emission.specs.Loops.{turn-table}
 use Rattle.emission.proofs.turns.Statement.{statement}

@@ -1,5 +1,4 @@
 -- `emission::unary_instructions` meets its contract: form by form.
-use Prim.Native.Nat.{_-_}
 use native.Mathlib.Omega.{arith}
 use borrow.Author.Needs.{needs}
 use Rattle.spec.specs.Arithmetic.{unary-instructions}

@@ -7,8 +7,6 @@ use Rattle.fields.specs.Fields.{digits-from}
 use Rattle.fields.proofs.Decimals.{digit-laws}
 use Rattle.fields.proofs.digits.Statement.{statement}
 use Rattle.fields.proofs.digits.Tie as tie
-use Rattle.fields.proofs.digits.Reads as reads
-use Rattle.fields.proofs.digits.Lts as lts
 
 abbrev Inv-loop : tie.InvT-loop
 Inv-loop field value₀ i₀ value i = (i ≤ length field) × (value < 2 ^ 64) × (digits-from 0 field ≡ digits-from value (drop i field))
@@ -16,31 +14,24 @@ Inv-loop field value₀ i₀ value i = (i ≤ length field) × (value < 2 ^ 64) 
 abbrev μ-loop : tie.MeasureT-loop
 μ-loop field value₀ i₀ value i = length field - i
 
--- src/lib.rt:77:5
 loop-holds : tie.Need-loop-holds Inv-loop μ-loop
 loop-holds c = search (digit-laws, needs)
 
--- src/lib.rt:78:20
 shared-slice-read-byte : tie.Need-shared-slice-read-byte Inv-loop μ-loop
 shared-slice-read-byte c = search (digit-laws, needs)
 
--- src/lib.rt:80:13
 returns : tie.Need-returns Inv-loop μ-loop
 returns c = search (digit-laws, needs)
 
--- src/lib.rt:83:13
 returns-2 : tie.Need-returns-2 Inv-loop μ-loop
 returns-2 c = search (digit-laws, needs)
 
--- src/lib.rt:85:21
 cast-digit : tie.Need-cast-digit Inv-loop μ-loop
 cast-digit c = search (digit-laws, needs)
 
--- src/lib.rt:86:13
 sub-if3 : tie.Need-sub-if3 Inv-loop μ-loop
 sub-if3 c = search (digit-laws, needs)
 
--- src/lib.rt:87:13
 returns-3 : tie.Need-returns-3 Inv-loop μ-loop
 returns-3 c =
     let field = c .before .before .before .before .before .before .args .field .now in
@@ -48,27 +39,21 @@ returns-3 c =
     let h : 2 ^ 64 ≤ here .value * 10 + (getD field (here .i) 0 - 48) = omega arith in
     search (digit-laws, needs)
 
--- src/lib.rt:89:17
 mul-value : tie.Need-mul-value Inv-loop μ-loop
 mul-value c = search (digit-laws, needs)
 
--- src/lib.rt:89:17
 add-value : tie.Need-add-value Inv-loop μ-loop
 add-value c = search (digit-laws, needs)
 
--- src/lib.rt:90:9
 add-i : tie.Need-add-i Inv-loop μ-loop
 add-i c = search (digit-laws, needs)
 
--- src/lib.rt:77:5
 loop-less : tie.Need-loop-less Inv-loop μ-loop
 loop-less c = search (digit-laws, needs)
 
--- src/lib.rt:77:5
 loop-again : tie.Need-loop-again Inv-loop μ-loop
 loop-again c = search (digit-laws, needs)
 
--- src/lib.rt:72:1
 returns-4 : tie.Need-returns-4 Inv-loop μ-loop
 returns-4 c = search (digit-laws, needs)
 

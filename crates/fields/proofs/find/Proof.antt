@@ -6,8 +6,6 @@ use Rattle.fields.specs.Fields.{index}
 use Rattle.fields.proofs.Marks.{index-end, index-here, index-more}
 use Rattle.fields.proofs.find.Statement.{statement}
 use Rattle.fields.proofs.find.Tie as tie
-use Rattle.fields.proofs.find.Reads as reads
-use Rattle.fields.proofs.find.Lts as lts
 
 abbrev Inv-loop : tie.InvT-loop
 Inv-loop s from b i₀ i = (i ≤ length s) × (from ≤ i) × (from + index b (drop from s) ≡ i + index b (drop i s))
@@ -15,31 +13,24 @@ Inv-loop s from b i₀ i = (i ≤ length s) × (from ≤ i) × (from + index b (
 abbrev μ-loop : tie.MeasureT-loop
 μ-loop s from b i₀ i = length s - i
 
--- src/lib.rt:47:5
 loop-holds : tie.Need-loop-holds Inv-loop μ-loop
 loop-holds c = (search needs, search needs, refl)
 
--- src/lib.rt:48:12
 shared-slice-read-if1 : tie.Need-shared-slice-read-if1 Inv-loop μ-loop
 shared-slice-read-if1 c = search needs
 
--- src/lib.rt:49:13
 returns : tie.Need-returns Inv-loop μ-loop
 returns c = record { low = search needs; high = search needs; here = search (index-here, needs) }
 
--- src/lib.rt:51:9
 add-i : tie.Need-add-i Inv-loop μ-loop
 add-i c = search needs
 
--- src/lib.rt:47:5
 loop-less : tie.Need-loop-less Inv-loop μ-loop
 loop-less c = search needs
 
--- src/lib.rt:47:5
 loop-again : tie.Need-loop-again Inv-loop μ-loop
 loop-again c = (search needs, search needs, search (index-more, needs))
 
--- src/lib.rt:42:1
 returns-2 : tie.Need-returns-2 Inv-loop μ-loop
 returns-2 c = record { low = search needs; high = search needs; here = search (index-end, needs) }
 

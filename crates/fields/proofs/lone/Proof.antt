@@ -2,46 +2,34 @@ use borrow.Author.Needs.{needs}
 use Rattle.fields.proofs.OnePass.{lone-laws}
 use Rattle.fields.proofs.lone.Statement.{statement}
 use Rattle.fields.proofs.lone.Tie as tie
-use Rattle.fields.proofs.lone.Reads as reads
-use Rattle.fields.proofs.lone.Lts as lts
 
--- src/lib.rt:187:9
 returns : tie.Need-returns
 returns c = search (lone-laws, needs)
 
--- src/lib.rt:189:16
 shared-slice-read-byte : tie.Need-shared-slice-read-byte
 shared-slice-read-byte c = search needs
 
--- src/lib.rt:191:9
 returns-2 : tie.Need-returns-2
 returns-2 c = search (lone-laws, needs)
 
--- src/lib.rt:194:9
 returns-3 : tie.Need-returns-3
 returns-3 c = search (lone-laws, needs)
 
--- src/lib.rt:196:8
 sub-if4 : tie.Need-sub-if4
 sub-if4 c = search needs
 
--- src/lib.rt:197:9
 returns-4 : tie.Need-returns-4
 returns-4 c = search (lone-laws, needs)
 
--- src/lib.rt:199:13
 add-if5 : tie.Need-add-if5
 add-if5 c = search needs
 
--- src/lib.rt:199:8
 shared-slice-read-if5 : tie.Need-shared-slice-read-if5
 shared-slice-read-if5 c = search needs
 
--- src/lib.rt:200:9
 returns-5 : tie.Need-returns-5
 returns-5 c = search (lone-laws, needs)
 
--- src/lib.rt:183:1
 returns-6 : tie.Need-returns-6
 returns-6 c = search (lone-laws, needs)
 

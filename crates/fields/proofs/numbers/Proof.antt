@@ -6,10 +6,6 @@ use mathlib.Core.Logic.{⊎-elim}
 use Rattle.fields.proofs.Lines.{Gone, gone-none, gone-more, gone-broken, gone-end, value-ahead}
 use Rattle.fields.proofs.numbers.Statement.{statement}
 use Rattle.fields.proofs.numbers.Tie as tie
-use Rattle.fields.proofs.numbers.Reads as reads
-use Rattle.fields.proofs.numbers.Lts as lts
-use Rattle.fields.proofs.lone.Reads as lone-reads
-use Rattle.fields.proofs.number.Reads as number-reads
 
 abbrev Inv-loop : tie.InvT-loop
 Inv-loop line lists₀ used n₀ at₀ lists n at = Gone line lists₀ used at₀ lists n at
@@ -17,71 +13,54 @@ Inv-loop line lists₀ used n₀ at₀ lists n at = Gone line lists₀ used at�
 abbrev μ-loop : tie.MeasureT-loop
 μ-loop line lists₀ used n₀ at₀ lists n at = length line + 1 - n
 
--- src/lib.rt:212:5
 loop-holds : tie.Need-loop-holds Inv-loop μ-loop
 loop-holds c = gone-none _ _ _ _ (search needs)
 
--- src/lib.rt:213:18
 add-to : tie.Need-add-to Inv-loop μ-loop
 add-to c = search needs
 
--- src/lib.rt:214:13
 lone-requires : tie.Need-lone-requires Inv-loop μ-loop
 lone-requires c κs = search needs
 
--- src/lib.rt:216:25
 cast-lists : tie.Need-cast-lists Inv-loop μ-loop
 cast-lists c = search needs
 
--- src/lib.rt:216:13
 mul-lists : tie.Need-mul-lists Inv-loop μ-loop
 mul-lists c = search needs
 
--- src/lib.rt:216:13
 slice-write-lists : tie.Need-slice-write-lists Inv-loop μ-loop
 slice-write-lists c = omega (arith, (c .before .lone .ensures .right (c .if1 .taken)) .ahead)
 
--- src/lib.rt:217:13
 add-at : tie.Need-add-at Inv-loop μ-loop
 add-at c = search needs
 
--- src/lib.rt:219:43
 number-requires : tie.Need-number-requires Inv-loop μ-loop
 number-requires c κs = search needs
 
--- src/lib.rt:219:32
 enum-known-v : tie.Need-enum-known-v Inv-loop μ-loop
 enum-known-v c = search needs
 
--- src/lib.rt:220:17
 enum-told : tie.Need-enum-told Inv-loop μ-loop
 enum-told c = search needs
 
--- src/lib.rt:220:17
 same-length : tie.Need-same-length Inv-loop μ-loop
 same-length c = search needs
 
--- src/lib.rt:220:17
 returns : tie.Need-returns Inv-loop μ-loop
 returns c = gone-broken _ _ _ _ _ _ _ (c .before .before .before .before .before .before .loop .inv) (c .before .before .number .result) (search needs) (c .before .before .number .ensures) (search needs)
 
--- src/lib.rt:222:13
 mul-lists-2 : tie.Need-mul-lists-2 Inv-loop μ-loop
 mul-lists-2 c = search needs
 
--- src/lib.rt:222:13
 slice-write-lists-2 : tie.Need-slice-write-lists-2 Inv-loop μ-loop
 slice-write-lists-2 c = let a = value-ahead _ _ (c .before .before .before .number .result) _ _ (c .before .before .before .number .ensures) (c .before .v .given .1) in omega arith
 
--- src/lib.rt:225:9
 add-n : tie.Need-add-n Inv-loop μ-loop
 add-n c = search needs
 
--- src/lib.rt:212:5
 loop-less : tie.Need-loop-less Inv-loop μ-loop
 loop-less c = search needs
 
--- src/lib.rt:212:5
 loop-again : tie.Need-loop-again Inv-loop μ-loop
 loop-again c =
     ⊎-elim
@@ -89,11 +68,9 @@ loop-again c =
     (λ w. rw (w .5, w .6) (gone-more _ _ _ _ _ _ _ (c .before .before .before .loop .inv) _ _ (search needs) (rw (w .3 .given .1) at (w .1 .ensures))))
     (c .if1 .came)
 
--- src/lib.rt:206:1
 same-length-2 : tie.Need-same-length-2 Inv-loop μ-loop
 same-length-2 c = search needs
 
--- src/lib.rt:206:1
 returns-2 : tie.Need-returns-2 Inv-loop μ-loop
 returns-2 c = search (gone-end, needs)
 

@@ -6,9 +6,6 @@ use Rattle.fields.proofs.OnePass.{quick-laws, digits-next}
 use Rattle.fields.specs.Fields.{Digits}
 use Rattle.fields.proofs.quick.Statement.{statement}
 use Rattle.fields.proofs.quick.Tie as tie
-use Rattle.fields.proofs.quick.Reads as reads
-use Rattle.fields.proofs.quick.Lts as lts
-use Rattle.fields.proofs.whole.Reads as whole-reads
 
 abbrev Inv-loop : tie.InvT-loop
 Inv-loop line at value₀ i₀ value i = Digits line at i value
@@ -16,63 +13,48 @@ Inv-loop line at value₀ i₀ value i = Digits line at i value
 abbrev μ-loop : tie.MeasureT-loop
 μ-loop line at value₀ i₀ value i = length line - i
 
--- src/lib.rt:149:5
 loop-holds : tie.Need-loop-holds Inv-loop μ-loop
 loop-holds c = search (quick-laws, needs)
 
--- src/lib.rt:150:20
 shared-slice-read-byte : tie.Need-shared-slice-read-byte Inv-loop μ-loop
 shared-slice-read-byte c = search (quick-laws, needs)
 
--- src/lib.rt:152:13
 whole-requires : tie.Need-whole-requires Inv-loop μ-loop
 whole-requires c κs = search (quick-laws, needs)
 
--- src/lib.rt:152:13
 returns : tie.Need-returns Inv-loop μ-loop
 returns c = search (quick-laws, needs)
 
--- src/lib.rt:155:13
 returns-2 : tie.Need-returns-2 Inv-loop μ-loop
 returns-2 c = search (quick-laws, needs)
 
--- src/lib.rt:158:13
 returns-3 : tie.Need-returns-3 Inv-loop μ-loop
 returns-3 c = search (quick-laws, needs)
 
--- src/lib.rt:161:13
 returns-4 : tie.Need-returns-4 Inv-loop μ-loop
 returns-4 c = search (quick-laws, needs)
 
--- src/lib.rt:163:17
 mul-value : tie.Need-mul-value Inv-loop μ-loop
 mul-value c = search (quick-laws, needs)
 
--- src/lib.rt:163:30
 cast-value : tie.Need-cast-value Inv-loop μ-loop
 cast-value c = search (quick-laws, needs)
 
--- src/lib.rt:163:17
 add-value : tie.Need-add-value Inv-loop μ-loop
 add-value c = search (quick-laws, needs)
 
--- src/lib.rt:164:9
 add-i : tie.Need-add-i Inv-loop μ-loop
 add-i c = search (quick-laws, needs)
 
--- src/lib.rt:149:5
 loop-less : tie.Need-loop-less Inv-loop μ-loop
 loop-less c = search (quick-laws, needs)
 
--- src/lib.rt:149:5
 loop-again : tie.Need-loop-again Inv-loop μ-loop
 loop-again c = digits-next _ _ _ _ (c .before .before .before .before .before .before .loop .inv) (search needs) (search needs) (search needs) (omega arith)
 
--- src/lib.rt:166:5
 whole-requires-2 : tie.Need-whole-requires-2 Inv-loop μ-loop
 whole-requires-2 c κs = search (quick-laws, needs)
 
--- src/lib.rt:143:1
 returns-5 : tie.Need-returns-5 Inv-loop μ-loop
 returns-5 c = search (quick-laws, needs)
 

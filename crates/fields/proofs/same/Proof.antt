@@ -6,8 +6,6 @@ use Rattle.spec.specs.Text.{same}
 use Rattle.fields.proofs.Tabs.{same-laws}
 use Rattle.fields.proofs.same.Statement.{statement}
 use Rattle.fields.proofs.same.Tie as tie
-use Rattle.fields.proofs.same.Reads as reads
-use Rattle.fields.proofs.same.Lts as lts
 
 abbrev Inv-loop : tie.InvT-loop
 Inv-loop a b i₀ i = (i ≤ length a) × (length a ≡ length b) × (same a b ≡ same (drop i a) (drop i b))
@@ -15,39 +13,30 @@ Inv-loop a b i₀ i = (i ≤ length a) × (length a ≡ length b) × (same a b �
 abbrev μ-loop : tie.MeasureT-loop
 μ-loop a b i₀ i = length a - i
 
--- src/lib.rt:60:9
 returns : tie.Need-returns Inv-loop μ-loop
 returns c = search (same-laws, needs)
 
--- src/lib.rt:63:5
 loop-holds : tie.Need-loop-holds Inv-loop μ-loop
 loop-holds c = search (same-laws, needs)
 
--- src/lib.rt:64:12
 shared-slice-read-if2 : tie.Need-shared-slice-read-if2 Inv-loop μ-loop
 shared-slice-read-if2 c = search (same-laws, needs)
 
--- src/lib.rt:64:20
 shared-slice-read-if2-2 : tie.Need-shared-slice-read-if2-2 Inv-loop μ-loop
 shared-slice-read-if2-2 c = search (same-laws, needs)
 
--- src/lib.rt:65:13
 returns-2 : tie.Need-returns-2 Inv-loop μ-loop
 returns-2 c = search (same-laws, needs)
 
--- src/lib.rt:67:9
 add-i : tie.Need-add-i Inv-loop μ-loop
 add-i c = search (same-laws, needs)
 
--- src/lib.rt:63:5
 loop-less : tie.Need-loop-less Inv-loop μ-loop
 loop-less c = search (same-laws, needs)
 
--- src/lib.rt:63:5
 loop-again : tie.Need-loop-again Inv-loop μ-loop
 loop-again c = search (same-laws, needs)
 
--- src/lib.rt:56:1
 returns-3 : tie.Need-returns-3 Inv-loop μ-loop
 returns-3 c = search (same-laws, needs)
 

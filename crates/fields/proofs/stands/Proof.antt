@@ -2,31 +2,22 @@ use borrow.Author.Needs.{needs}
 use Rattle.fields.proofs.Lines.{same-here, same-nowhere}
 use Rattle.fields.proofs.stands.Statement.{statement}
 use Rattle.fields.proofs.stands.Tie as tie
-use Rattle.fields.proofs.stands.Reads as reads
-use Rattle.fields.proofs.stands.Lts as lts
-use Rattle.fields.proofs.same.Reads as same-reads
 
--- src/lib.rt:182:9
 returns : tie.Need-returns
 returns c = search (same-here, same-nowhere, needs)
 
--- src/lib.rt:185:9
 returns-2 : tie.Need-returns-2
 returns-2 c = search (same-here, same-nowhere, needs)
 
--- src/lib.rt:187:10
 part-same-start : tie.Need-part-same-start
 part-same-start c = search needs
 
--- src/lib.rt:187:10
 part-same-end : tie.Need-part-same-end
 part-same-end c = search needs
 
--- src/lib.rt:187:5
 same-requires : tie.Need-same-requires
 same-requires c κs = search needs
 
--- src/lib.rt:178:1
 returns-3 : tie.Need-returns-3
 returns-3 c = search (same-here, same-nowhere, needs)
 

@@ -1,4 +1,4 @@
--- One line more in both columns. Assumes nothing.
+-- One line more in both columns.
 use borrow.Author.Needs.{needs}
 use Rattle.figures.specs.Totals.{with-line}
 use Rattle.figures.proofs.add_line.Statement.{statement}

@@ -1,4 +1,4 @@
--- One number more in a column; it still fits. Assumes nothing.
+-- One number more in a column; it still fits.
 use borrow.Author.Needs.{needs}
 use native.Mathlib.Omega.{arith}
 use Rattle.figures.specs.Totals.{with-number}

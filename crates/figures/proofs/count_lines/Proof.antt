@@ -1,4 +1,4 @@
--- The invariant: the lines before the position are in the columns, and those behind it decide the rest. Assumes nothing.
+-- The invariant: the lines before the position are in the columns, and those behind it decide the rest.
 use Prim.Native.Nat.{_-_}
 use lib.ListN.{length}
 use native.Mathlib.Omega.{arith}

@@ -1,4 +1,4 @@
--- The word, three numbers, and the line's end: each call takes one field off the list of fields. Assumes nothing.
+-- The word, three numbers, and the line's end: each call takes one field off the list of fields.
 use native.Mathlib.Omega.{arith}
 use borrow.Author.Needs.{needs}
 use mathlib.Core.Path.{refl, sym, _∙_}

@@ -1,4 +1,4 @@
--- The answer by what is read. Assumes nothing.
+-- The answer by what is read.
 use borrow.Author.Needs.{needs}
 use mathlib.Core.Path.{sym, _∙_}
 use Rattle.figures.proofs.Gathered.{answered-refused, held, answered}

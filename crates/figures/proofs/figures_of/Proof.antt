@@ -1,4 +1,4 @@
--- 41 where no line was counted. Assumes nothing.
+-- 41 where no line was counted.
 use borrow.Author.Needs.{needs}
 use Rattle.figures.proofs.Gathered.{none-counted, some-counted, held-some}
 use Rattle.figures.proofs.Printing.{refuses}

@@ -1,4 +1,4 @@
--- Euclid's algorithm: the invariant is that the greatest common divisor stays the same. Assumes nothing.
+-- Euclid's algorithm: the invariant is that the greatest common divisor stays the same.
 use mathlib.Core.Path.{_≡_, refl, sym, _∙_}
 use native.Mathlib.Omega.{arith}
 use native.Mathlib.Nat.{mod-lt}

@@ -1,4 +1,4 @@
--- A line up to its line feed, and where the next begins. Assumes nothing.
+-- A line up to its line feed, and where the next begins.
 use native.Mathlib.Omega.{arith}
 use borrow.Author.Needs.{needs}
 use Rattle.figures.proofs.Lines.{step-unended, step-done, step-malformed}

@@ -1,4 +1,4 @@
--- The length is known before a byte is written. Assumes nothing.
+-- The length is known before a byte is written.
 use borrow.Author.Needs.{needs}
 use native.Mathlib.Omega.{arith}
 use Rattle.figures.proofs.Printing.{too-long, fits}

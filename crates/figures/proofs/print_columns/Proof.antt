@@ -1,4 +1,4 @@
--- The line for instructions, and then the one for new storages. Assumes nothing.
+-- The line for instructions, and then the one for new storages.
 use borrow.Author.Needs.{needs}
 use Rattle.text.specs.Put.{then}
 use Rattle.figures.specs.Totals.{printed}

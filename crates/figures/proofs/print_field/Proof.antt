@@ -1,4 +1,4 @@
--- A comma, and the digits. Assumes nothing.
+-- A comma, and the digits.
 use borrow.Author.Needs.{needs}
 use Rattle.text.specs.Put.{then}
 use Rattle.figures.proofs.print_field.Statement.{statement}

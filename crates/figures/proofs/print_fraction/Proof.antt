@@ -1,4 +1,4 @@
--- Both parts divided by the greatest common divisor, which is not 0. Assumes nothing.
+-- Both parts divided by the greatest common divisor, which is not 0.
 use borrow.Author.Needs.{needs}
 use native.Mathlib.Omega.{arith}
 use Rattle.text.specs.Put.{then}

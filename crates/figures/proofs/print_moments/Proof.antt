@@ -1,4 +1,4 @@
--- Mean, variance and line feed; no product is too large, and no difference below 0. Assumes nothing.
+-- Mean, variance and line feed; no product is too large, and no difference below 0.
 use borrow.Author.Needs.{needs}
 use native.Mathlib.Omega.{arith}
 use native.Mathlib.Nat.{mul-pos}

@@ -1,4 +1,4 @@
--- Count, least and greatest, one behind the other. Assumes nothing.
+-- Count, least and greatest, one behind the other.
 use borrow.Author.Needs.{needs}
 use Rattle.text.specs.Put.{then}
 use Rattle.figures.specs.Totals.{range-of}

@@ -1,4 +1,4 @@
--- The two halves of a line. Assumes nothing.
+-- The two halves of a line.
 use borrow.Author.Needs.{needs}
 use Rattle.text.specs.Put.{then}
 use Rattle.figures.specs.Totals.{figures-of}

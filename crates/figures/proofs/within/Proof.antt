@@ -1,4 +1,4 @@
--- The bound on both counts, test by test. Assumes nothing.
+-- The bound on both counts, test by test.
 use borrow.Author.Needs.{needs}
 use Rattle.figures.proofs.Lines.{bounds}
 use Rattle.figures.proofs.within.Statement.{statement}

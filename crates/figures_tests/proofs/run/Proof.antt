@@ -1,4 +1,4 @@
--- The tally counts no further than the text is long. Assumes nothing.
+-- The tally counts no further than the text is long.
 use Prim.Native.Nat.{_≤_, _-_}
 use lib.ListN.{length}
 use borrow.Author.Needs.{needs}

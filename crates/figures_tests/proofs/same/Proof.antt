@@ -1,4 +1,4 @@
--- `figures_tests::same` reads inside both slices: they have n bytes each. Assumes nothing.
+-- `figures_tests::same` reads inside both slices: they have n bytes each.
 use mathlib.Core.Path.{_≡_}
 use Prim.Native.Nat.{_≤_, _-_}
 use lib.ListN.{length}

@@ -1,4 +1,4 @@
--- `figures_tests::untouched` reads inside the buffer. Assumes nothing.
+-- `figures_tests::untouched` reads inside the buffer.
 use Prim.Native.Nat.{_≤_, _-_}
 use lib.ListN.{length}
 use borrow.Author.Needs.{needs}

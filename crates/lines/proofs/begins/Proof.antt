@@ -1,4 +1,4 @@
--- `lines::begins` meets its contract: a shorter line does not begin so, and of any other the first bytes are compared. Assumes nothing.
+-- `lines::begins` meets its contract: a shorter line does not begin so, and of any other the first bytes are compared.
 use borrow.Author.Needs.{needs}
 use native.Mathlib.Omega.{arith}
 use lib.ListN.{length-take}

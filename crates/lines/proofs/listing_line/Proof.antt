@@ -1,4 +1,4 @@
--- `lines::listing_line` meets its contract: the first line that begins with what was printed. Assumes nothing.
+-- `lines::listing_line` meets its contract: the first line that begins with what was printed.
 use borrow.Author.Needs.{needs}
 use native.Mathlib.Omega.{arith}
 use lib.ListN.{length-take}

@@ -1,4 +1,4 @@
--- `lines::nth_line` meets its contract. The loop's invariant: the line asked for is the one of those from here on that `left` more precede. Assumes nothing.
+-- `lines::nth_line` meets its contract. The loop's invariant: the line asked for is the one of those from here on that `left` more precede.
 use borrow.Author.Needs.{needs}
 use native.Mathlib.Omega.{arith}
 use Prim.Native.Nat.{_≤_, _-_}

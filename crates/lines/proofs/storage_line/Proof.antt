@@ -1,4 +1,4 @@
--- `lines::storage_line` meets its contract: the part from a line's start to its line feed is that line. Assumes nothing.
+-- `lines::storage_line` meets its contract: the part from a line's start to its line feed is that line.
 use borrow.Author.Needs.{needs}
 use native.Mathlib.Omega.{arith}
 use mathlib.Core.Path.{refl}

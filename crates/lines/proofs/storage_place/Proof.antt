@@ -1,4 +1,4 @@
--- `lines::storage_place` meets its contract, case by case. Assumes nothing.
+-- `lines::storage_place` meets its contract, case by case.
 use borrow.Author.Needs.{needs}
 use Rattle.lines.specs.Lines.{storage-line}
 use Rattle.lines.proofs.Parts.{place-laws}

@@ -1,4 +1,4 @@
--- `lines::storage_start` meets its contract: the three pieces printed are `storage,k,`, for which there is room. Assumes nothing.
+-- `lines::storage_start` meets its contract: the three pieces printed are `storage,k,`, for which there is room.
 use borrow.Author.Needs.{needs}
 use native.Mathlib.Omega.{arith}
 use Rattle.lines.proofs.Starts.{start-printed}

@@ -1,4 +1,4 @@
--- `lines_tests::run` ends: each case read takes bytes of the input. Assumes nothing.
+-- `lines_tests::run` ends: each case read takes bytes of the input.
 use borrow.Author.Needs.{needs}
 use Prim.Native.Nat.{_≤_, _-_}
 use lib.ListN.{length}

@@ -1,4 +1,4 @@
--- `listing_tests::read_first` lends a part that is there. Assumes nothing.
+-- `listing_tests::read_first` lends a part that is there.
 use mathlib.Core.Path.{sym}
 use native.Mathlib.Omega.{arith}
 use lib.Seq.{length-take-le}

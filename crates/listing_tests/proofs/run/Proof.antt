@@ -1,4 +1,4 @@
--- `listing_tests::run` counts no further than it may, and keeps the lengths of what it was lent. Assumes nothing.
+-- `listing_tests::run` counts no further than it may, and keeps the lengths of what it was lent.
 use mathlib.Core.Path.{_≡_}
 use Prim.Native.Nat.{_≤_, _-_}
 use lib.ListN.{length}

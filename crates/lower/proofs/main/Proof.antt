@@ -1,4 +1,4 @@
--- `lower::main` lends as much of the text as was read. Assumes nothing.
+-- `lower::main` lends as much of the text as was read.
 use mathlib.Core.Path.{sym}
 use lib.Seq.{length-take-le}
 use borrow.Author.Needs.{needs}

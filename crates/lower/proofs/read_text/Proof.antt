@@ -1,4 +1,4 @@
--- `lower::read_text` reads no further than the text is long. Assumes nothing.
+-- `lower::read_text` reads no further than the text is long.
 use mathlib.Core.Path.{_≡_}
 use Prim.Native.Nat.{_≤_, _-_, _<_, _^_}
 use lib.ListN.{length}

@@ -1,4 +1,4 @@
--- `lower::respond` writes as much of the buffer as the entry's contract says is there. Assumes nothing.
+-- `lower::respond` writes as much of the buffer as the entry's contract says is there.
 use mathlib.Core.Path.{sym}
 use lib.Seq.{length-take-le}
 use borrow.Author.Needs.{needs}

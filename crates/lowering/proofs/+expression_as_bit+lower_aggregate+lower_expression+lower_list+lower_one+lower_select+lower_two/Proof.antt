@@ -1,4 +1,4 @@
--- The cycle of `lower_expression` meets its contracts together: the depth falls with each node, and at one depth a number for each function. Assumes nothing.
+-- The cycle of `lower_expression` meets its contracts together: the depth falls with each node, and at one depth a number for each function.
 use Prim.Native.Nat.{ℕ, _<_}
 use borrow.Fn.Kinds.{In}
 use borrow.Fn.PlainCycle.{Measures, is, falls, and}
@@ -46,12 +46,8 @@ use Rattle.steps.proofs.lower_null.Reads as lower-null-reads
 use Rattle.steps.proofs.value_as_bit.Reads as value-as-bit-reads
 use Rattle.tables.proofs.list_at.Reads as list-at-reads
 use Rattle.values.proofs.at_top.Reads as at-top-reads
-use Rattle.lowering.proofs.+expression_as_bit+lower_aggregate+lower_expression+lower_list+lower_one+lower_select+lower_two.{
-  statement,
-}
-use Rattle.lowering.proofs.+expression_as_bit+lower_aggregate+lower_expression+lower_list+lower_one+lower_select+lower_two.Tie.{
-  close,
-}
+use Rattle.lowering.proofs.+expression_as_bit+lower_aggregate+lower_expression+lower_list+lower_one+lower_select+lower_two.{statement}
+use Rattle.lowering.proofs.+expression_as_bit+lower_aggregate+lower_expression+lower_list+lower_one+lower_select+lower_two.Tie.{close}
 
 abbrev μ-expression-as-bit : Measures 7 expression-as-bit-kinds.ps ℕ
 μ-expression-as-bit κs a = rank (a .1 .1 .1 .1 .1 .1 .1 .1 .1 .1 .0) 1

@@ -1,4 +1,4 @@
--- `lowering::convert` meets its contract: a value's records under another type, or a step that looks at the head alone. Assumes nothing.
+-- `lowering::convert` meets its contract: a value's records under another type, or a step that looks at the head alone.
 use borrow.Author.Needs.{needs}
 use Rattle.tables.proofs.Laws.{readable-sized}
 use Rattle.lowering.proofs.StepLaws.{behind-conversion, behind-reinterpreted}

@@ -1,4 +1,4 @@
--- `lowering::find_node` meets its contract: the line's kind, and where it stands. Assumes nothing.
+-- `lowering::find_node` meets its contract: the line's kind, and where it stands.
 use borrow.Author.Needs.{needs}
 use mathlib.Core.Path.{sym}
 use Rattle.tables.proofs.Laws.{tree-here}

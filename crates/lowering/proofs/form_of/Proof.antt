@@ -1,4 +1,4 @@
--- `lowering::form_of` meets its contract: by the kind. Assumes nothing.
+-- `lowering::form_of` meets its contract: by the kind.
 use borrow.Author.Needs.{needs}
 use Rattle.lowering.proofs.form_of.Statement.{statement}
 use Rattle.lowering.proofs.form_of.Tie as tie

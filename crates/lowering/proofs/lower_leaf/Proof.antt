@@ -1,4 +1,4 @@
--- `lowering::lower_leaf` meets its contract: each leaf as its own step leaves it. Assumes nothing.
+-- `lowering::lower_leaf` meets its contract: each leaf as its own step leaves it.
 use borrow.Author.Needs.{needs}
 use mathlib.Core.Path.{refl}
 use native.Mathlib.Omega.{arith}

@@ -1,4 +1,4 @@
--- `lowering::one_step` meets its contract: each step behind its operand. Assumes nothing.
+-- `lowering::one_step` meets its contract: each step behind its operand.
 use borrow.Author.Needs.{needs}
 use Rattle.lowering.proofs.StepLaws.{behind-unary, behind-extract}
 use Rattle.lowering.proofs.one_step.Statement.{statement}

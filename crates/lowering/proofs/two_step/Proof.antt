@@ -1,4 +1,4 @@
--- `lowering::two_step` meets its contract: each step behind its operands. Assumes nothing.
+-- `lowering::two_step` meets its contract: each step behind its operands.
 use borrow.Author.Needs.{needs}
 use native.Mathlib.Omega.{arith}
 use Rattle.emission.specs.Appends.{room-less}

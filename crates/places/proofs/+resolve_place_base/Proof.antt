@@ -1,5 +1,5 @@
--- `places::resolve_place_base` meets its contract: by the place's kind, the measure is the depth that is left. Assumes nothing.
-use Prim.Native.Nat.{ℕ, _<_, _-_}
+-- `places::resolve_place_base` meets its contract: by the place's kind, the measure is the depth that is left.
+use Prim.Native.Nat.{ℕ, _<_}
 use borrow.Fn.Kinds.{In}
 use borrow.Fn.PlainCycle.{Measures, is, falls, and}
 use mathlib.Core.Path.{sym, _∙_}

@@ -1,4 +1,4 @@
--- `places::base_of` meets its contract: the type's kind and size are the table's. Assumes nothing.
+-- `places::base_of` meets its contract: the type's kind and size are the table's.
 use Rattle.tables.proofs.Laws.{readable-sized}
 use Rattle.places.proofs.Facts.{base-read}
 use Rattle.places.proofs.base_of.Statement.{statement}

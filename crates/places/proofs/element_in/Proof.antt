@@ -1,4 +1,4 @@
--- `places::element_in` meets its contract: the index is inside, so its product with the size is at most the array's size. Assumes nothing.
+-- `places::element_in` meets its contract: the index is inside, so its product with the size is at most the array's size.
 use borrow.Author.Needs.{needs}
 use mathlib.Core.Path.{ap, sym, _∙_}
 use borrow.Author.Tests.{lt-ltb, le-ltb}

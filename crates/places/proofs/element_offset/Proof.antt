@@ -1,4 +1,4 @@
--- `places::element_offset` meets its contract: by the array, if the type is one, and the constant. Assumes nothing.
+-- `places::element_offset` meets its contract: by the array, if the type is one, and the constant.
 use borrow.Author.Needs.{needs}
 use mathlib.Core.Path.{ap, _∙_}
 use Rattle.spec.specs.Places.{element-offset}

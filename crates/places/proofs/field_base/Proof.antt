@@ -1,4 +1,4 @@
--- `places::field_base` meets its contract: the field of a base that is fine, behind the base. Assumes nothing.
+-- `places::field_base` meets its contract: the field of a base that is fine, behind the base.
 use borrow.Author.Needs.{needs}
 use Rattle.places.proofs.Laws.{refuse-refuses}
 use Rattle.places.proofs.Facts.{bases-bind, bases-refused}

@@ -1,4 +1,4 @@
--- `places::field_in` meets its contract: a field is there just where the index is below the count. Assumes nothing.
+-- `places::field_in` meets its contract: a field is there just where the index is below the count.
 use borrow.Author.Needs.{needs}
 use Prim.Native.Nat.{_≤_}
 use native.Mathlib.Omega.{arith}

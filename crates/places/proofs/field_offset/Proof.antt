@@ -1,4 +1,4 @@
--- `places::field_offset` meets its contract: by the fields, if the type has any. Assumes nothing.
+-- `places::field_offset` meets its contract: by the fields, if the type has any.
 use borrow.Author.Needs.{needs}
 use mathlib.Core.Path.{ap, _∙_}
 use Rattle.spec.specs.Places.{field-offset}

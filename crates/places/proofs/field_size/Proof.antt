@@ -1,4 +1,4 @@
--- `places::field_size` meets its contract: the stored size is the table's. Assumes nothing.
+-- `places::field_size` meets its contract: the stored size is the table's.
 use borrow.Author.Needs.{needs}
 use mathlib.Core.Path.{sym, _∙_}
 use Rattle.tables.proofs.Laws.{readable-sized, size-here}

@@ -1,4 +1,4 @@
--- `places::location_in` meets its contract: 27 past the limit. Assumes nothing.
+-- `places::location_in` meets its contract: 27 past the limit.
 use borrow.Author.Needs.{needs}
 use mathlib.Core.Path.{sym, _∙_}
 use borrow.Author.Tests.{leb-true}

@@ -1,4 +1,4 @@
--- `places::offset_base` meets its contract: the offset into a base that is fine, behind the base. Assumes nothing.
+-- `places::offset_base` meets its contract: the offset into a base that is fine, behind the base.
 use borrow.Author.Needs.{needs}
 use Rattle.places.proofs.Laws.{refuse-refuses}
 use Rattle.places.proofs.Facts.{bases-refused}

@@ -1,4 +1,4 @@
--- `places::offset_in` meets its contract: the constant, then the limit. Assumes nothing.
+-- `places::offset_in` meets its contract: the constant, then the limit.
 use borrow.Author.Needs.{needs}
 use mathlib.Core.Path.{sym, ap, _∙_}
 use borrow.Author.Tests.{leb-true}

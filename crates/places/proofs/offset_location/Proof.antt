@@ -1,4 +1,4 @@
--- `places::offset_location` meets its contract: the constant, then the location, behind the base. Assumes nothing.
+-- `places::offset_location` meets its contract: the constant, then the location, behind the base.
 use borrow.Author.Needs.{needs}
 use mathlib.Core.Path.{ap, _∙_}
 use Rattle.places.specs.Abstract.{constant-option}

@@ -1,4 +1,4 @@
--- `places::opaque_rest` meets its contract: both ways give the difference that stops at 0. Assumes nothing.
+-- `places::opaque_rest` meets its contract: both ways give the difference that stops at 0.
 use borrow.Author.Needs.{needs}
 use mathlib.Core.Logic.{⊎-elim}
 use mathlib.Core.Path.{_≡_}

@@ -1,4 +1,4 @@
--- `places::part_base` meets its contract: a part inside the limit is fine, and 27 past it. Assumes nothing.
+-- `places::part_base` meets its contract: a part inside the limit is fine, and 27 past it.
 use borrow.Author.Needs.{needs}
 use mathlib.Core.Path.{sym, _∙_}
 use borrow.Author.Tests.{leb-true}

@@ -1,4 +1,4 @@
--- `places::part_location` meets its contract: 22 is told before 27. Assumes nothing.
+-- `places::part_location` meets its contract: 22 is told before 27.
 use borrow.Author.Needs.{needs}
 use mathlib.Core.Path.{sym, _∙_}
 use borrow.Author.Tests.{leb-true, not-true, not-false}

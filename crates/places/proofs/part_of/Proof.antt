@@ -1,4 +1,4 @@
--- `places::part_of` meets its contract: the type's kind and size are the table's. Assumes nothing.
+-- `places::part_of` meets its contract: the type's kind and size are the table's.
 use borrow.Author.Needs.{needs}
 use Rattle.tables.proofs.Laws.{readable-sized}
 use Rattle.places.proofs.Facts.{part-read}

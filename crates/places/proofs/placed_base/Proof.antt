@@ -1,4 +1,4 @@
--- `places::placed_base` meets its contract: 20 where nothing is found; what is found is right. Assumes nothing.
+-- `places::placed_base` meets its contract: 20 where nothing is found; what is found is right.
 use borrow.Author.Needs.{needs}
 use mathlib.Core.Path.{ap}
 use Rattle.tables.specs.Tables.{placed-option}

@@ -1,4 +1,4 @@
--- `places::placed_location` meets its contract: 20 where nothing is found. Assumes nothing.
+-- `places::placed_location` meets its contract: 20 where nothing is found.
 use borrow.Author.Needs.{needs}
 use mathlib.Core.Path.{ap}
 use Rattle.tables.specs.Tables.{placed-option}

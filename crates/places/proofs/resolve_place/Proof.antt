@@ -1,4 +1,4 @@
--- `places::resolve_place` meets its contract: by the place's kind, each behind its base. Assumes nothing.
+-- `places::resolve_place` meets its contract: by the place's kind, each behind its base.
 use borrow.Author.Needs.{needs}
 use mathlib.Core.Path.{sym, _∙_}
 use Rattle.spec.specs.Places.{resolve-place as place-located}

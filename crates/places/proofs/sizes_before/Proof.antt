@@ -1,4 +1,4 @@
--- `places::sizes_before` meets its contract: the loop holds the sum over the fields passed; the sum over all of them is small. Assumes nothing.
+-- `places::sizes_before` meets its contract: the loop holds the sum over the fields passed; the sum over all of them is small.
 use Prim.Native.Nat.{_+_, _-_, _≤_}
 use native.Mathlib.Omega.{arith}
 use borrow.Author.Needs.{zero≤}

@@ -1,4 +1,4 @@
--- `places::static_location` meets its contract: the static's line, by the list of statics. Assumes nothing.
+-- `places::static_location` meets its contract: the static's line, by the list of statics.
 use mathlib.Core.Path.{_∙_}
 use Rattle.spec.specs.Places.{resolve-place}
 use Rattle.tables.proofs.Laws.{readable-sized, nth-static}

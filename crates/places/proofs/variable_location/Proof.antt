@@ -1,4 +1,4 @@
--- `places::variable_location` meets its contract: the variable's line, by the list of variables. Assumes nothing.
+-- `places::variable_location` meets its contract: the variable's line, by the list of variables.
 use mathlib.Core.Path.{_∙_}
 use Rattle.spec.specs.Places.{resolve-place}
 use Rattle.tables.proofs.Laws.{readable-sized, nth-variable}

@@ -1,4 +1,4 @@
--- `places::with_type` meets its contract: 22 where the types differ. Assumes nothing.
+-- `places::with_type` meets its contract: 22 where the types differ.
 use borrow.Author.Tests.{eq-eqb, ne-eqb}
 use Rattle.spec.specs.Places.{with-type}
 use Rattle.places.specs.Answers.{gives, refuses}

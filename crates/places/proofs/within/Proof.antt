@@ -1,4 +1,4 @@
--- `places::within` meets its contract: a sum's bound is told by a difference. Assumes nothing.
+-- `places::within` meets its contract: a sum's bound is told by a difference.
 use borrow.Author.Needs.{needs}
 use Rattle.places.proofs.Laws.{leb-moved}
 use Rattle.places.proofs.within.Statement.{statement}

@@ -1,4 +1,4 @@
--- The line by what the value is. Assumes nothing.
+-- The line by what the value is.
 use borrow.Author.Needs.{needs}
 use Rattle.printing.proofs.print_head.Statement.{statement}
 use Rattle.printing.proofs.print_head.Tie as tie

@@ -1,4 +1,4 @@
--- A line, or none. Assumes nothing.
+-- A line, or none.
 use borrow.Author.Needs.{needs}
 use native.Mathlib.Omega.{arith}
 use Rattle.printing.proofs.Laws.{unmarked, mark-put}

@@ -1,4 +1,4 @@
--- The invariant: what is printed and the lines of the records that are left are the whole. Assumes nothing.
+-- The invariant: what is printed and the lines of the records that are left are the whole.
 use mathlib.Core.Path.{_≡_, refl, _∙_}
 use Prim.Native.Nat.{_≤_, _-_}
 use lib.ListN.{length}

@@ -1,4 +1,4 @@
--- The head's line, and then those of the parts. Assumes nothing.
+-- The head's line, and then those of the parts.
 use borrow.Author.Needs.{needs}
 use Rattle.text.specs.Put.{then}
 use Rattle.values.specs.Heads.{head-of}

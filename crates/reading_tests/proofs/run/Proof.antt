@@ -3,10 +3,6 @@ use lib.ListN.{length}
 use borrow.Author.Needs.{needs}
 use Rattle.reading_tests.proofs.run.Statement.{statement}
 use Rattle.reading_tests.proofs.run.Tie as tie
-use Rattle.reading_tests.proofs.run.Reads as reads
-use Rattle.reading_tests.proofs.run.Lts as lts
-use Rattle.reading_tests.proofs.missed.Reads as missed-reads
-use Rattle.reading_tests.proofs.replay.Reads as replay-reads
 
 abbrev Inv-loop : tie.InvT-loop
 Inv-loop all at₀ ran₀ failed₀ at ran failed = (at ≤ length all) × (ran ≤ at) × (failed ≤ ran)
@@ -14,39 +10,30 @@ Inv-loop all at₀ ran₀ failed₀ at ran failed = (at ≤ length all) × (ran 
 abbrev μ-loop : tie.MeasureT-loop
 μ-loop all at₀ ran₀ failed₀ at ran failed = length all - at
 
--- src/main.rt:116:5
 loop-holds : tie.Need-loop-holds Inv-loop μ-loop
 loop-holds c = search needs
 
--- src/main.rt:117:13
 replay-requires : tie.Need-replay-requires Inv-loop μ-loop
 replay-requires c κs = search needs
 
--- src/main.rt:118:19
 missed-requires : tie.Need-missed-requires Inv-loop μ-loop
 missed-requires c κs = search needs
 
--- src/main.rt:118:9
 add-failed : tie.Need-add-failed Inv-loop μ-loop
 add-failed c = search needs
 
--- src/main.rt:120:13
 returns : tie.Need-returns Inv-loop μ-loop
 returns c = search needs
 
--- src/main.rt:122:9
 add-ran : tie.Need-add-ran Inv-loop μ-loop
 add-ran c = search needs
 
--- src/main.rt:116:5
 loop-less : tie.Need-loop-less Inv-loop μ-loop
 loop-less c = search needs
 
--- src/main.rt:116:5
 loop-again : tie.Need-loop-again Inv-loop μ-loop
 loop-again c = search needs
 
--- src/main.rt:112:1
 returns-2 : tie.Need-returns-2 Inv-loop μ-loop
 returns-2 c = search needs
 

@@ -1,9 +1,9 @@
-use Prim.Native.Nat.{ℕ, _<_, _+_, _-_, _*_}
+use Prim.Native.Nat.{ℕ, _<_, _+_, _*_}
 use borrow.Fn.Kinds.{In}
 use borrow.Fn.PlainCycle.{Measures, is, falls, and}
 use native.Mathlib.Omega.{arith}
 use borrow.Author.Needs.{needs}
-use mathlib.Core.Path.{_≡_, refl, sym, _∙_}
+use mathlib.Core.Path.{refl, sym, _∙_}
 use Rattle.spec.specs.Monad.{_>>=_}
 use Rattle.spec.specs.ReadBytes.{read-bytes-as-type}
 use Rattle.tables.specs.Tables.{tables-of}

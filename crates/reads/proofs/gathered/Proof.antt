@@ -1,4 +1,4 @@
--- `reads::gathered` meets its contract: the head is as the list was: done with its records, or refused. Assumes nothing.
+-- `reads::gathered` meets its contract: the head is as the list was: done with its records, or refused.
 use borrow.Author.Needs.{needs}
 use Rattle.reads.proofs.gathered.Statement.{statement}
 use Rattle.reads.proofs.gathered.Tie as tie

@@ -1,4 +1,4 @@
--- `reads::part_at` meets its contract: a part's type, and that type's size. Assumes nothing.
+-- `reads::part_at` meets its contract: a part's type, and that type's size.
 use borrow.Author.Needs.{needs}
 use Rattle.reads.proofs.part_at.Statement.{statement}
 use Rattle.reads.proofs.part_at.Tie as tie

@@ -1,4 +1,4 @@
--- `reads::part_type` meets its contract: by the kind of parts. Assumes nothing.
+-- `reads::part_type` meets its contract: by the kind of parts.
 use borrow.Author.Needs.{needs}
 use Rattle.reads.proofs.part_type.Statement.{statement}
 use Rattle.reads.proofs.part_type.Tie as tie

@@ -1,4 +1,4 @@
--- `reads::read_bool` meets its contract: one storage and one instruction, as the definition appends them. Assumes nothing.
+-- `reads::read_bool` meets its contract: one storage and one instruction, as the definition appends them.
 use borrow.Author.Needs.{needs}
 use Rattle.emission.specs.Emits.{room-allocated}
 use Rattle.reads.proofs.Laws.{bool-meets}

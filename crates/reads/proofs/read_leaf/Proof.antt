@@ -1,4 +1,4 @@
--- `reads::read_leaf` meets its contract: each leaf as its own step leaves it. Assumes nothing.
+-- `reads::read_leaf` meets its contract: each leaf as its own step leaves it.
 use borrow.Author.Needs.{needs}
 use mathlib.Core.Path.{refl, sym, _∙_}
 use native.Mathlib.Omega.{arith}

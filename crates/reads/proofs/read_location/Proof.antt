@@ -1,4 +1,4 @@
--- `reads::read_location` meets its contract: a bit as it stands, or a type read at the greatest depth. Assumes nothing.
+-- `reads::read_location` meets its contract: a bit as it stands, or a type read at the greatest depth.
 use borrow.Author.Needs.{needs}
 use mathlib.Core.Path.{refl}
 use native.Mathlib.Omega.{arith}

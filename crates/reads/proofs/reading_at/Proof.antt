@@ -1,4 +1,4 @@
--- `reads::reading_at` meets its contract: the reading of the kind found. Assumes nothing.
+-- `reads::reading_at` meets its contract: the reading of the kind found.
 use borrow.Author.Needs.{needs}
 use Rattle.reads.proofs.reading_at.Statement.{statement}
 use Rattle.reads.proofs.reading_at.Tie as tie

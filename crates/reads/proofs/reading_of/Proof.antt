@@ -1,4 +1,4 @@
--- `reads::reading_of` meets its contract: by the kind. Assumes nothing.
+-- `reads::reading_of` meets its contract: by the kind.
 use borrow.Author.Needs.{needs}
 use Rattle.reads.proofs.reading_of.Statement.{statement}
 use Rattle.reads.proofs.reading_of.Tie as tie

@@ -1,4 +1,4 @@
--- `reads::store_head` meets its contract: the record's words are stored. Assumes nothing.
+-- `reads::store_head` meets its contract: the record's words are stored.
 use borrow.Author.Needs.{needs}
 use Rattle.reads.proofs.store_head.Statement.{statement}
 use Rattle.reads.proofs.store_head.Tie as tie

@@ -1,4 +1,4 @@
--- `selects::select_pieces` meets its contract: a piece in front of the others. The measure is how many destinations are left. Assumes nothing.
+-- `selects::select_pieces` meets its contract: a piece in front of the others. The measure is how many destinations are left.
 use Prim.Native.Nat.{ℕ, _<_}
 use borrow.Fn.Kinds.{In}
 use borrow.Fn.PlainCycle.{Measures, is, falls, and}

@@ -1,4 +1,4 @@
--- `selects::bit_piece` meets its contract: two bits, or the refusal of a byte. Assumes nothing.
+-- `selects::bit_piece` meets its contract: two bits, or the refusal of a byte.
 use borrow.Author.Needs.{needs}
 use Rattle.spec.specs.Select.{select-piece}
 use mathlib.Core.Path.{refl}

@@ -1,4 +1,4 @@
--- `selects::byte_piece` meets its contract: two bytes, or the refusal of a bit. Assumes nothing.
+-- `selects::byte_piece` meets its contract: two bytes, or the refusal of a bit.
 use borrow.Author.Needs.{needs}
 use Rattle.spec.specs.Select.{select-piece}
 use mathlib.Core.Path.{refl}

@@ -1,4 +1,4 @@
--- `selects::lower_select` meets its contract: a temporary, or its refusal, and what is done behind it. Assumes nothing.
+-- `selects::lower_select` meets its contract: a temporary, or its refusal, and what is done behind it.
 use borrow.Author.Needs.{needs}
 use mathlib.Core.Path.{sym, _∙_}
 use native.Mathlib.Omega.{arith}

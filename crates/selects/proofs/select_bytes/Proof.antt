@@ -1,4 +1,4 @@
--- `selects::select_bytes` meets its contract: the loop has appended the first i entries of the table. Assumes nothing.
+-- `selects::select_bytes` meets its contract: the loop has appended the first i entries of the table.
 use mathlib.Core.Path.{_≡_, refl}
 use Prim.Native.Nat.{_-_, _≤_}
 use native.Mathlib.Omega.{arith}

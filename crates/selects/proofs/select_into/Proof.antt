@@ -1,4 +1,4 @@
--- `selects::select_into` meets its contract: the temporary filled, and then read. Assumes nothing.
+-- `selects::select_into` meets its contract: the temporary filled, and then read.
 use borrow.Author.Needs.{needs}
 use mathlib.Core.Path.{refl}
 use native.Mathlib.Omega.{arith}

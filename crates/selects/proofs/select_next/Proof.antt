@@ -1,4 +1,4 @@
--- `selects::select_next` meets its contract: a side that is over, or a piece. Assumes nothing.
+-- `selects::select_next` meets its contract: a side that is over, or a piece.
 use borrow.Author.Needs.{needs}
 use Rattle.selects.proofs.Laws.{first-over, second-over, piece-refused, piece-more}
 use Rattle.selects.proofs.select_next.Statement.{statement}

@@ -1,4 +1,4 @@
--- `selects::select_piece` meets its contract: by the kind of destination. Assumes nothing.
+-- `selects::select_piece` meets its contract: by the kind of destination.
 use borrow.Author.Needs.{needs}
 use Rattle.selects.proofs.select_piece.Statement.{statement}
 use Rattle.selects.proofs.select_piece.Tie as tie

@@ -1,4 +1,4 @@
--- `selects::select_to_location` meets its contract: the types are compared, and then all pieces made. Assumes nothing.
+-- `selects::select_to_location` meets its contract: the types are compared, and then all pieces made.
 use borrow.Author.Needs.{needs}
 use native.Mathlib.Omega.{arith}
 use lib.Dec.{eqb}

@@ -1,4 +1,4 @@
--- `selects::select_values` meets its contract: byte by byte, or by cursors. Assumes nothing.
+-- `selects::select_values` meets its contract: byte by byte, or by cursors.
 use borrow.Author.Needs.{needs}
 use native.Mathlib.Omega.{arith}
 use Rattle.lir.specs.Abstract.{bit-operand-of}

@@ -1,4 +1,4 @@
--- `steps::compared` meets its contract: a new bit, or the refusal of floats. Assumes nothing.
+-- `steps::compared` meets its contract: a new bit, or the refusal of floats.
 use borrow.Author.Needs.{needs}
 use Rattle.reads.specs.Reading.{at-of}
 use Rattle.steps.proofs.Laws.{value-stops, compared-float, compared-meets}

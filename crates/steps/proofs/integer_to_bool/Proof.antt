@@ -1,4 +1,4 @@
--- `steps::integer_to_bool` meets its contract: a new bit, or the refusal. Assumes nothing.
+-- `steps::integer_to_bool` meets its contract: a new bit, or the refusal.
 use borrow.Author.Needs.{needs}
 use Rattle.reads.specs.Reading.{at-of}
 use Rattle.steps.proofs.Laws.{bool-stopped, bool-new}

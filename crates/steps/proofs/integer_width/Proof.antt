@@ -1,4 +1,4 @@
--- `steps::integer_width` meets its contract: the width of the type at its line. Assumes nothing.
+-- `steps::integer_width` meets its contract: the width of the type at its line.
 use borrow.Author.Needs.{needs}
 use Rattle.steps.proofs.Laws.{has-width}
 use Rattle.steps.proofs.integer_width.Statement.{statement}

@@ -1,4 +1,4 @@
--- `steps::lower_address_of` meets its contract: the address of the base that the place leads to. Assumes nothing.
+-- `steps::lower_address_of` meets its contract: the address of the base that the place leads to.
 use borrow.Author.Needs.{needs}
 use Rattle.steps.proofs.Pointers.{based-refused, based-found, meets-as}
 use Rattle.steps.proofs.Laws.{value-stops}

@@ -1,4 +1,4 @@
--- `steps::lower_bool` meets its contract: a constant bit. Assumes nothing.
+-- `steps::lower_bool` meets its contract: a constant bit.
 use mathlib.Core.Path.{refl}
 use Rattle.spec.specs.Lir.{value, bit-value, constant}
 use Rattle.spec.specs.Lower.{lower-expression}

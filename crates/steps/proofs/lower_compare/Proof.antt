@@ -1,4 +1,4 @@
--- `steps::lower_compare` meets its contract: the width first, then the operands, then the operator. Assumes nothing.
+-- `steps::lower_compare` meets its contract: the width first, then the operands, then the operator.
 use borrow.Author.Needs.{needs}
 use Rattle.reads.specs.Reading.{at-of}
 use Rattle.steps.proofs.Laws.{wide, value-stops, compare-no-width, compare-no-left, compare-no-right, compare-meets}

@@ -1,4 +1,4 @@
--- `steps::lower_function_address` meets its contract: a storage of two bytes and the instruction that fills it. Assumes nothing.
+-- `steps::lower_function_address` meets its contract: a storage of two bytes and the instruction that fills it.
 use borrow.Author.Needs.{needs}
 use Rattle.emission.specs.Emits.{room-allocated}
 use Rattle.steps.proofs.Pointers.{function-meets}

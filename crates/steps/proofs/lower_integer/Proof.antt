@@ -1,4 +1,4 @@
--- `steps::lower_integer` meets its contract: a constant, or the refusal of one that is too long. Assumes nothing.
+-- `steps::lower_integer` meets its contract: a constant, or the refusal of one that is too long.
 use borrow.Author.Needs.{needs}
 use Rattle.steps.proofs.Laws.{integer-meets, integer-refused, value-stops}
 use Rattle.reads.specs.Reading.{at-of}

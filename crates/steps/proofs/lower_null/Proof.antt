@@ -1,4 +1,4 @@
--- `steps::lower_null` meets its contract: a constant of two bytes. Assumes nothing.
+-- `steps::lower_null` meets its contract: a constant of two bytes.
 use borrow.Author.Needs.{needs}
 use Rattle.steps.proofs.Laws.{null-meets}
 use Rattle.reads.specs.Reading.{at-of}

@@ -1,4 +1,4 @@
--- `steps::lower_read` meets its contract: the location that the place leads to, read. Assumes nothing.
+-- `steps::lower_read` meets its contract: the location that the place leads to, read.
 use borrow.Author.Needs.{needs}
 use Rattle.steps.proofs.Laws.{value-stops, read-refused, read-meets, room-found}
 use Rattle.reads.specs.Reading.{at-of}

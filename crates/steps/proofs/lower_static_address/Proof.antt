@@ -1,4 +1,4 @@
--- `steps::lower_static_address` meets its contract: the address of the storage that the static has. Assumes nothing.
+-- `steps::lower_static_address` meets its contract: the address of the storage that the static has.
 use borrow.Author.Needs.{needs}
 use Rattle.steps.proofs.Pointers.{static-missing, static-found, meets-as}
 use Rattle.steps.proofs.Laws.{value-stops}

@@ -1,4 +1,4 @@
--- `steps::narrow` meets its contract: by the owner and by the length of the marks. Assumes nothing.
+-- `steps::narrow` meets its contract: by the owner and by the length of the marks.
 use borrow.Author.Needs.{needs}
 use Rattle.steps.proofs.Pointers.{narrow-in, narrow-out, narrow-not}
 use native.Mathlib.Omega.{arith}

@@ -1,4 +1,4 @@
--- `steps::not_zero` meets its contract: the width first, then the bytes, then the comparison. Assumes nothing.
+-- `steps::not_zero` meets its contract: the width first, then the bytes, then the comparison.
 use borrow.Author.Needs.{needs}
 use Rattle.steps.proofs.Laws.{wide, zero-does, zero-no-width, zero-no-bytes}
 use Rattle.steps.proofs.not_zero.Statement.{statement}

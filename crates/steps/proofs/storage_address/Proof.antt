@@ -1,4 +1,4 @@
--- `steps::storage_address` meets its contract: a mark, a storage of two bytes and the instruction that fills it. Assumes nothing.
+-- `steps::storage_address` meets its contract: a mark, a storage of two bytes and the instruction that fills it.
 use borrow.Author.Needs.{needs}
 use Rattle.steps.proofs.Pointers.{address-refused, address-meets}
 use Rattle.steps.proofs.Laws.{value-stops}

@@ -1,4 +1,4 @@
--- `steps::value_as_bit` meets its contract: its own bit, or a new one. Assumes nothing.
+-- `steps::value_as_bit` meets its contract: its own bit, or a new one.
 use borrow.Author.Needs.{needs}
 use Rattle.reads.specs.Reading.{at-of}
 use Rattle.steps.proofs.Laws.{bit-own, bit-stopped, bit-new}

@@ -1,4 +1,4 @@
--- `steps::value_bytes` meets its contract: by the kind of value. Assumes nothing.
+-- `steps::value_bytes` meets its contract: by the kind of value.
 use borrow.Author.Needs.{needs}
 use Rattle.steps.proofs.value_bytes.Statement.{statement}
 use Rattle.steps.proofs.value_bytes.Tie as tie

@@ -1,4 +1,4 @@
--- `steps::width_of` meets its contract: by the kind of type. Assumes nothing.
+-- `steps::width_of` meets its contract: by the kind of type.
 use borrow.Author.Needs.{needs}
 use Rattle.steps.proofs.width_of.Statement.{statement}
 use Rattle.steps.proofs.width_of.Tie as tie

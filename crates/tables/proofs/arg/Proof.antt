@@ -1,4 +1,4 @@
--- `tables::arg` meets its contract: the count is looked at first. Assumes nothing.
+-- `tables::arg` meets its contract: the count is looked at first.
 use borrow.Author.Needs.{needs}
 use mathlib.Core.Path.{sym, _∙_}
 use Rattle.tables.proofs.Laws.{arg-in, arg-out}

@@ -1,4 +1,4 @@
--- `tables::behind` meets its contract: the test is the definition's. Assumes nothing.
+-- `tables::behind` meets its contract: the test is the definition's.
 use borrow.Author.Needs.{needs}
 use borrow.Author.Tests.{lt-ltb, le-ltb}
 use Rattle.tables.specs.Tables.{behind}

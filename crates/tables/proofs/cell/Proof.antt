@@ -1,4 +1,4 @@
--- `tables::cell` meets its contract: a row's place is small, and past the last row the default stands. Assumes nothing.
+-- `tables::cell` meets its contract: a row's place is small, and past the last row the default stands.
 use borrow.Author.Needs.{needs}
 use mathlib.Core.Path.{sym, _∙_}
 use Rattle.tables.proofs.Laws.{cell-in, cell-out}

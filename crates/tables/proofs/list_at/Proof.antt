@@ -1,4 +1,4 @@
--- `tables::list_at` meets its contract: where it stops early, the sum is past the end. Assumes nothing.
+-- `tables::list_at` meets its contract: where it stops early, the sum is past the end.
 use borrow.Author.Needs.{needs}
 use lib.ListN.{length, List·getD-eq-default}
 use mathlib.Core.Path.{sym}

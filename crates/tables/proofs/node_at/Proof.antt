@@ -1,4 +1,4 @@
--- `tables::node_at` meets its contract: the three cells are the definition's, and the numbers behind TYPE are one less. Assumes nothing.
+-- `tables::node_at` meets its contract: the three cells are the definition's, and the numbers behind TYPE are one less.
 use borrow.Author.Needs.{needs}
 use mathlib.Core.Logic.{⊎-elim}
 use mathlib.Core.Path.{_≡_}

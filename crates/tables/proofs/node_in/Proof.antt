@@ -1,4 +1,4 @@
--- `tables::node_in` meets its contract: the three numbers are the definition's. Assumes nothing.
+-- `tables::node_in` meets its contract: the three numbers are the definition's.
 use borrow.Author.Needs.{needs}
 use Rattle.tables.specs.Tables.{node-kind-in}
 use Rattle.tables.proofs.node_in.Statement.{statement}

@@ -1,4 +1,4 @@
--- `tables::node_kind` meets its contract: each number picks its place in the definition's list, and any other is past its end. Assumes nothing.
+-- `tables::node_kind` meets its contract: each number picks its place in the definition's list, and any other is past its end.
 use borrow.Author.Needs.{zero≤}
 use Rattle.tables.proofs.Laws.{past, node-kind-past}
 use Rattle.tables.specs.Tables.{node-kind}

@@ -1,4 +1,4 @@
--- `tables::number` meets its contract: the two cells are the definition's. Assumes nothing.
+-- `tables::number` meets its contract: the two cells are the definition's.
 use borrow.Author.Needs.{needs}
 use Rattle.tables.specs.Tables.{numbers-at}
 use Rattle.tables.proofs.number.Statement.{statement}

@@ -1,4 +1,4 @@
--- `tables::place_at` meets its contract: the cell and the two numbers are the definition's. Assumes nothing.
+-- `tables::place_at` meets its contract: the cell and the two numbers are the definition's.
 use borrow.Author.Needs.{needs}
 use Rattle.tables.specs.Tables.{place-kind-at}
 use Rattle.tables.proofs.place_at.Statement.{statement}

@@ -1,4 +1,4 @@
--- `tables::placed_in` meets its contract: the four numbers are the definition's. Assumes nothing.
+-- `tables::placed_in` meets its contract: the four numbers are the definition's.
 use borrow.Author.Needs.{needs}
 use Rattle.tables.proofs.placed_in.Statement.{statement}
 use Rattle.tables.proofs.placed_in.Tie as tie

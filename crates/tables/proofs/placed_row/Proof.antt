@@ -1,4 +1,4 @@
--- `tables::placed_row` meets its contract: the test is the definition's, and so are the two cells. Assumes nothing.
+-- `tables::placed_row` meets its contract: the test is the definition's, and so are the two cells.
 use borrow.Author.Needs.{needs}
 use borrow.Author.Tests.{lt-ltb, le-ltb}
 use Rattle.tables.specs.Tables.{numbers-at, placed-at}

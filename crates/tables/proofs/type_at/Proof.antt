@@ -1,4 +1,4 @@
--- `tables::type_at` meets its contract: the three cells are the definition's. Assumes nothing.
+-- `tables::type_at` meets its contract: the three cells are the definition's.
 use borrow.Author.Needs.{needs}
 use Rattle.tables.specs.Tables.{type-kind-at}
 use Rattle.tables.proofs.type_at.Statement.{statement}

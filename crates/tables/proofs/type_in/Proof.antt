@@ -1,4 +1,4 @@
--- `tables::type_in` meets its contract: the two numbers are the definition's. Assumes nothing.
+-- `tables::type_in` meets its contract: the two numbers are the definition's.
 use borrow.Author.Needs.{needs}
 use Rattle.tables.specs.Tables.{type-kind-in}
 use Rattle.tables.proofs.type_in.Statement.{statement}

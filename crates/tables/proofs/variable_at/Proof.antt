@@ -1,4 +1,4 @@
--- `tables::variable_at` meets its contract: a row is there just where the list has an element. Assumes nothing.
+-- `tables::variable_at` meets its contract: a row is there just where the list has an element.
 use borrow.Author.Needs.{needs}
 use Rattle.tables.proofs.Laws.{nth-placed}
 use Rattle.tables.proofs.variable_at.Statement.{statement}

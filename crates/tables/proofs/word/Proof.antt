@@ -1,4 +1,4 @@
--- `tables::word` meets its contract: past the end the list's default stands. Assumes nothing.
+-- `tables::word` meets its contract: past the end the list's default stands.
 use borrow.Author.Needs.{needs}
 use lib.ListN.{List·getD-eq-default}
 use mathlib.Core.Path.{sym}

@@ -2,14 +2,10 @@ use native.Mathlib.Omega.{arith}
 use Rattle.values.specs.Stack.{bit-stored}
 use Rattle.values.proofs.bit_in.Statement.{statement}
 use Rattle.values.proofs.bit_in.Tie as tie
-use Rattle.values.proofs.bit_in.Reads as reads
-use Rattle.values.proofs.bit_in.Lts as lts
 
--- src/lib.rt:124:1
 returns : tie.Need-returns
 returns c = rw (c .match .keys1)
 
--- src/lib.rt:124:1
 returns-2 : tie.Need-returns-2
 returns-2 c = bit-stored (c .before .args .tag) (c .before .args .x) (λ e. omega arith)
 

@@ -1,9 +1,6 @@
 use borrow.Author.Needs.{needs}
-use Prim.Native.Nat.{_-_, _+_}
 use Rattle.values.proofs.bit_words.Statement.{statement}
 use Rattle.values.proofs.bit_words.Tie as tie
-use Rattle.values.proofs.bit_words.Reads as reads
-use Rattle.values.proofs.bit_words.Lts as lts
 
 enum-known-b : tie.Need-enum-known-b
 enum-known-b c = search needs

@@ -1,9 +1,6 @@
 use borrow.Author.Needs.{needs}
-use Prim.Native.Nat.{_-_, _+_}
 use Rattle.values.proofs.bytes_words.Statement.{statement}
 use Rattle.values.proofs.bytes_words.Tie as tie
-use Rattle.values.proofs.bytes_words.Reads as reads
-use Rattle.values.proofs.bytes_words.Lts as lts
 
 enum-known-source : tie.Need-enum-known-source
 enum-known-source c = search needs

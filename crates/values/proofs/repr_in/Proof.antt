@@ -3,32 +3,22 @@ use native.Mathlib.Omega.{arith}
 use Rattle.values.specs.Stack.{repr-parted}
 use Rattle.values.proofs.repr_in.Statement.{statement}
 use Rattle.values.proofs.repr_in.Tie as tie
-use Rattle.values.proofs.repr_in.Reads as reads
-use Rattle.values.proofs.repr_in.Lts as lts
-use Rattle.values.proofs.bit_in.Reads as bit-in-reads
-use Rattle.values.proofs.source_in.Reads as source-in-reads
 
--- src/lib.rt:138:24
 bit-in-requires : tie.Need-bit-in-requires
 bit-in-requires c κs = search needs
 
--- src/lib.rt:140:21
 source-in-requires : tie.Need-source-in-requires
 source-in-requires c κs = search needs
 
--- src/lib.rt:133:1
 returns : tie.Need-returns
 returns c = search needs
 
--- src/lib.rt:133:1
 returns-2 : tie.Need-returns-2
 returns-2 c = rw (c .before .match .keys2, c .bit-in .ensures)
 
--- src/lib.rt:133:1
 returns-3 : tie.Need-returns-3
 returns-3 c = rw (c .before .match .keys3, c .source-in .ensures)
 
--- src/lib.rt:133:1
 returns-4 : tie.Need-returns-4
 returns-4 c = repr-parted (c .before .args .kind) (c .before .args .a) (c .before .args .b) (c .before .args .c) (c .before .args .count) (c .before .args .total) (omega arith)
 

@@ -8,8 +8,6 @@ use lib.Seq.{sets, length-sets, take-all}
 use Rattle.values.specs.Stores.{stored-more, dropped-more}
 use Rattle.values.proofs.store8.Statement.{statement}
 use Rattle.values.proofs.store8.Tie as tie
-use Rattle.values.proofs.store8.Reads as reads
-use Rattle.values.proofs.store8.Lts as lts
 
 abbrev Inv-loop : tie.InvT-loop
 Inv-loop stack₀ at ws j₀ stack j = (j ≤ 8) × (stack ≡ sets stack₀ at (take j ws))

@@ -2,68 +2,49 @@ use borrow.Author.Needs.{needs}
 use Rattle.values.specs.Stack.{value-at}
 use Rattle.values.proofs.value_at.Statement.{statement}
 use Rattle.values.proofs.value_at.Tie as tie
-use Rattle.values.proofs.value_at.Reads as reads
-use Rattle.values.proofs.value_at.Lts as lts
-use Rattle.values.proofs.repr_in.Reads as repr-in-reads
-use Rattle.values.proofs.word.Reads as word-reads
 
--- src/lib.rt:153:28
 add-word : tie.Need-add-word
 add-word c = search needs
 
--- src/lib.rt:153:9
 word-requires : tie.Need-word-requires
 word-requires c κs = search needs
 
--- src/lib.rt:154:25
 add-word-2 : tie.Need-add-word-2
 add-word-2 c = search needs
 
--- src/lib.rt:154:9
 word-requires-2 : tie.Need-word-requires-2
 word-requires-2 c κs = search needs
 
--- src/lib.rt:155:25
 add-word-3 : tie.Need-add-word-3
 add-word-3 c = search needs
 
--- src/lib.rt:155:9
 word-requires-3 : tie.Need-word-requires-3
 word-requires-3 c κs = search needs
 
--- src/lib.rt:156:25
 add-word-4 : tie.Need-add-word-4
 add-word-4 c = search needs
 
--- src/lib.rt:156:9
 word-requires-4 : tie.Need-word-requires-4
 word-requires-4 c κs = search needs
 
--- src/lib.rt:157:29
 add-word-5 : tie.Need-add-word-5
 add-word-5 c = search needs
 
--- src/lib.rt:157:9
 word-requires-5 : tie.Need-word-requires-5
 word-requires-5 c κs = search needs
 
--- src/lib.rt:158:29
 add-word-6 : tie.Need-add-word-6
 add-word-6 c = search needs
 
--- src/lib.rt:158:9
 word-requires-6 : tie.Need-word-requires-6
 word-requires-6 c κs = search needs
 
--- src/lib.rt:160:13
 word-requires-7 : tie.Need-word-requires-7
 word-requires-7 c κs = search needs
 
--- src/lib.rt:161:15
 repr-in-requires : tie.Need-repr-in-requires
 repr-in-requires c κs = search needs
 
--- src/lib.rt:149:1
 returns : tie.Need-returns
 unfolding value-at
 returns c = rw (c .repr-in .ensures, c .before .word7 .ensures, c .before .before .word6 .ensures, c .before .before .before .word5 .ensures, c .before .before .before .before .word4 .ensures, c .before .before .before .before .before .word3 .ensures, c .before .before .before .before .before .before .word2 .ensures, c .before .before .before .before .before .before .before .word .ensures)

@@ -1,12 +1,7 @@
 use borrow.Author.Needs.{needs}
-use Prim.Native.Nat.{_-_, _+_}
 use Rattle.values.specs.Left.{value-words}
 use Rattle.values.proofs.value_words.Statement.{statement}
 use Rattle.values.proofs.value_words.Tie as tie
-use Rattle.values.proofs.value_words.Reads as reads
-use Rattle.values.proofs.value_words.Lts as lts
-use Rattle.values.proofs.bit_words.Reads as bit-words-reads
-use Rattle.values.proofs.bytes_words.Reads as bytes-words-reads
 
 enum-told : tie.Need-enum-told
 enum-told c = search needs

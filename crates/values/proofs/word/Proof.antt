@@ -1,12 +1,8 @@
 use borrow.Author.Needs.{needs}
 use mathlib.Core.Path.{sym}
-use Prim.Native.Nat.{_-_, _+_}
-use mathlib.Core.List.{List}
 use lib.ListN.{List·getD-eq-default}
 use Rattle.values.proofs.word.Statement.{statement}
 use Rattle.values.proofs.word.Tie as tie
-use Rattle.values.proofs.word.Reads as reads
-use Rattle.values.proofs.word.Lts as lts
 
 mul-result : tie.Need-mul-result
 mul-result c = search needs

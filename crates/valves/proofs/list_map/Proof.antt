@@ -1,4 +1,4 @@
--- The invariant: what is left of the list goes on from the last valve and the number so far. Assumes nothing.
+-- The invariant: what is left of the list goes on from the last valve and the number so far.
 use Prim.Native.Nat.{_+_, _-_}
 use lib.ListN.{length}
 use Rattle.valves.proofs.Lists.{Passed, list-empty, passed-none, passed-all, passed-bad, passed-low, passed-high, passed-room, passed-more}

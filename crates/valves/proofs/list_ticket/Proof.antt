@@ -1,4 +1,4 @@
--- The answer by its tests, in their order. Assumes nothing.
+-- The answer by its tests, in their order.
 use borrow.Author.Needs.{needs}
 use Rattle.valves.proofs.Answering.{list-low, list-high, list-written, list-faulty}
 use Rattle.valves.proofs.list_ticket.Statement.{statement}

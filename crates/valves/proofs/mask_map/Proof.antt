@@ -1,4 +1,4 @@
--- A mask's number is its map's where it has N bits. Assumes nothing.
+-- A mask's number is its map's where it has N bits.
 use borrow.Author.Needs.{needs}
 use Rattle.valves.proofs.Masks.{mask-fits, mask-shifted, mask-over}
 use native.Mathlib.Omega.{arith}

@@ -1,4 +1,4 @@
--- The invariant: the value is the number of the bytes from i on. Assumes nothing.
+-- The invariant: the value is the number of the bytes from i on.
 use Rattle.valves.proofs.Masks.{Bytes, bytes-none, bytes-room, bytes-more, bytes-all}
 use native.Mathlib.Omega.{arith}
 use borrow.Author.Needs.{needs}

@@ -1,4 +1,4 @@
--- The answer by its tests, in their order. Assumes nothing.
+-- The answer by its tests, in their order.
 use borrow.Author.Needs.{needs}
 use Rattle.valves.proofs.Answering.{mask-low, mask-high, mask-other, mask-written, mask-faulty}
 use Rattle.valves.proofs.mask_ticket.Statement.{statement}

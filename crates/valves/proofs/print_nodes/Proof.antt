@@ -1,4 +1,4 @@
--- The variable and the nodes by their pieces. Assumes nothing.
+-- The variable and the nodes by their pieces.
 use borrow.Author.Needs.{needs}
 use Rattle.valves.proofs.Printed.{nodes-put}
 use Rattle.valves.proofs.print_nodes.Statement.{statement}

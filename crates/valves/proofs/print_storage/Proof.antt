@@ -1,4 +1,4 @@
--- The storage line by its pieces. Assumes nothing.
+-- The storage line by its pieces.
 use borrow.Author.Needs.{needs}
 use Rattle.valves.proofs.Printed.{storage-put}
 use Rattle.valves.proofs.print_storage.Statement.{statement}

@@ -1,4 +1,4 @@
--- The ticket by its three parts. Assumes nothing.
+-- The ticket by its three parts.
 use borrow.Author.Needs.{needs}
 use Rattle.valves.proofs.Printed.{ticket-put}
 use Rattle.valves.proofs.print_ticket.Statement.{statement}

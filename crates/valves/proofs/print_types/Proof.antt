@@ -1,4 +1,4 @@
--- The function and the types by their pieces. Assumes nothing.
+-- The function and the types by their pieces.
 use borrow.Author.Needs.{needs}
 use Rattle.valves.proofs.Printed.{types-put}
 use Rattle.valves.proofs.print_types.Statement.{statement}

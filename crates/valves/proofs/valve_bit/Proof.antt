@@ -1,4 +1,4 @@
--- No bit is lost: valves end at 64. Assumes nothing.
+-- No bit is lost: valves end at 64.
 use borrow.Author.Needs.{needs}
 use Rattle.valves.proofs.Lists.{bit-is}
 use native.Mathlib.Omega.{arith}

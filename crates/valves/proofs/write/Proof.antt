@@ -1,4 +1,4 @@
--- The ticket where the buffer has room for it, else 28. Assumes nothing.
+-- The ticket where the buffer has room for it, else 28.
 use borrow.Author.Needs.{needs}
 use Rattle.valves.proofs.Printed.{ticket-short, no-room, room}
 use native.Mathlib.Omega.{arith}

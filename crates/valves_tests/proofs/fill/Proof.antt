@@ -1,4 +1,4 @@
--- `valves_tests::fill` keeps the length. Assumes nothing.
+-- `valves_tests::fill` keeps the length.
 use mathlib.Core.Path.{_≡_}
 use Prim.Native.Nat.{_≤_, _-_}
 use native.Mathlib.Omega.{arith}

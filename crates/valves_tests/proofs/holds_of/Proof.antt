@@ -1,4 +1,4 @@
--- `valves_tests::holds_of` lends parts that are there. Assumes nothing.
+-- `valves_tests::holds_of` lends parts that are there.
 use mathlib.Core.Path.{sym}
 use native.Mathlib.Omega.{arith}
 use lib.Seq.{length-take-le}

@@ -1,4 +1,4 @@
--- `valves_tests::read_first` lends a part that is there. Assumes nothing.
+-- `valves_tests::read_first` lends a part that is there.
 use mathlib.Core.Path.{sym}
 use native.Mathlib.Omega.{arith}
 use lib.Seq.{length-take-le}

@@ -1,4 +1,4 @@
--- `valves_tests::ticket_within` lends a part that is there. Assumes nothing.
+-- `valves_tests::ticket_within` lends a part that is there.
 use mathlib.Core.Path.{sym}
 use lib.Seq.{length-take-le}
 use borrow.Author.Needs.{needs}

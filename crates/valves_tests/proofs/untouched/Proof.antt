@@ -1,4 +1,4 @@
--- `valves_tests::untouched` reads inside the buffer. Assumes nothing.
+-- `valves_tests::untouched` reads inside the buffer.
 use Prim.Native.Nat.{_≤_, _-_}
 use lib.ListN.{length}
 use borrow.Author.Needs.{needs}

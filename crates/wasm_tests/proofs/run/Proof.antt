@@ -1,4 +1,4 @@
--- `wasm_tests::run` meets its contract: a turn runs one case, the last is the table's last, and no more fail than run. Assumes nothing.
+-- `wasm_tests::run` meets its contract: a turn runs one case, the last is the table's last, and no more fail than run.
 use Prim.Native.Nat.{_≤_, _-_}
 use mathlib.Core.Logic.{⊎-elim}
 use native.Mathlib.Omega.{arith}

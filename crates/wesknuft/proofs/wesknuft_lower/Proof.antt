@@ -1,4 +1,4 @@
--- `wesknuft::wesknuft_lower` meets its contract: the entry's answer, case by case. Assumes nothing.
+-- `wesknuft::wesknuft_lower` meets its contract: the entry's answer, case by case.
 use mathlib.Core.Path.{refl}
 use native.Mathlib.Omega.{arith}
 use borrow.Author.Needs.{needs}

@@ -1,4 +1,4 @@
--- `wesknuft::wesknuft_lower_in` meets its contract: the entry's answer, case by case. Assumes nothing.
+-- `wesknuft::wesknuft_lower_in` meets its contract: the entry's answer, case by case.
 use borrow.Author.Needs.{needs}
 use mathlib.Core.Path.{refl}
 use native.Mathlib.Omega.{arith}

@@ -1,4 +1,4 @@
--- `numerics::arithmetic::iadd` meets its contract: 64 bits of the sum hold its lowest N. Assumes nothing.
+-- `numerics::arithmetic::iadd` meets its contract: 64 bits of the sum hold its lowest N.
 use borrow.Author.Needs.{needs}
 use Rattle.numerics.specs.Numerics.{iadd}
 use Rattle.numerics.proofs.Answers.{binary-is, outside}

@@ -1,4 +1,4 @@
--- `numerics::arithmetic::idiv_u` meets its contract: undefined for a divisor that is 0 modulo 2 ^ N, else the quotient of the reduced operands. Assumes nothing.
+-- `numerics::arithmetic::idiv_u` meets its contract: undefined for a divisor that is 0 modulo 2 ^ N, else the quotient of the reduced operands.
 use borrow.Author.Needs.{needs}
 use Rattle.numerics.specs.Numerics.{idiv-u}
 use Rattle.numerics.specs.declared.arithmetic.Quotient.the-variants.{Number}

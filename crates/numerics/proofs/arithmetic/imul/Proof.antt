@@ -1,4 +1,4 @@
--- `numerics::arithmetic::imul` meets its contract: 64 bits of the product hold its lowest N. Assumes nothing.
+-- `numerics::arithmetic::imul` meets its contract: 64 bits of the product hold its lowest N.
 use borrow.Author.Needs.{needs}
 use Rattle.numerics.specs.Numerics.{imul}
 use Rattle.numerics.proofs.Answers.{binary-is, outside}

@@ -1,4 +1,4 @@
--- `numerics::arithmetic::ineg` meets its contract: a negation is a difference from 0, at any width. Assumes nothing.
+-- `numerics::arithmetic::ineg` meets its contract: a negation is a difference from 0, at any width.
 use borrow.Author.Needs.{needs}
 use Rattle.numerics.specs.Numerics.{isub, ineg}
 use Rattle.numerics.specs.Functions.{unary-at, binary-at}

@@ -1,4 +1,4 @@
--- `numerics::arithmetic::isub` meets its contract: 64 bits of the difference hold its lowest N. Assumes nothing.
+-- `numerics::arithmetic::isub` meets its contract: 64 bits of the difference hold its lowest N.
 use borrow.Author.Needs.{needs}
 use Rattle.numerics.specs.Numerics.{isub}
 use Rattle.numerics.proofs.Answers.{binary-is, outside}

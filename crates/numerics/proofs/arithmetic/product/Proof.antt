@@ -1,4 +1,4 @@
--- `numerics::arithmetic::product` meets its contract: the product by halves, modulo 2 ^ 64. Assumes nothing.
+-- `numerics::arithmetic::product` meets its contract: the product by halves, modulo 2 ^ 64.
 use borrow.Author.Needs.{needs}
 use Rattle.numerics.proofs.Modulo.{product-lt, halves}
 use mathlib.Core.Path.{refl, ap₂, _∙_}

@@ -1,4 +1,4 @@
--- `numerics::arithmetic::signed_quotient` meets its contract: the quotient of the sizes, with the sign that the signs give; undefined at 2 ^ (N - 1). Assumes nothing.
+-- `numerics::arithmetic::signed_quotient` meets its contract: the quotient of the sizes, with the sign that the signs give; undefined at 2 ^ (N - 1).
 use borrow.Author.Needs.{needs}
 use Rattle.numerics.proofs.Reading.{size-pos}
 use Rattle.numerics.proofs.Quotients.{quotient-over, quotient-same, quotient-other}

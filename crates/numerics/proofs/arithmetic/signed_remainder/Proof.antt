@@ -1,4 +1,4 @@
--- `numerics::arithmetic::signed_remainder` meets its contract: the remainder of the sizes, with the dividend's sign. Assumes nothing.
+-- `numerics::arithmetic::signed_remainder` meets its contract: the remainder of the sizes, with the dividend's sign.
 use borrow.Author.Needs.{needs}
 use Rattle.numerics.proofs.Reading.{size-pos}
 use Rattle.numerics.proofs.Quotients.{remainder-low, remainder-high}

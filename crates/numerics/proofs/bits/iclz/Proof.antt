@@ -1,4 +1,4 @@
--- `numerics::bits::iclz` meets its contract: the leading zeros among 64 bits, less the 64 - N above the width. Assumes nothing.
+-- `numerics::bits::iclz` meets its contract: the leading zeros among 64 bits, less the 64 - N above the width.
 use borrow.Author.Needs.{needs}
 use Rattle.numerics.proofs.Answers.{unary-is, outside}
 use Rattle.numerics.proofs.Counts.{leading-enough, clz-is}

@@ -1,4 +1,4 @@
--- `numerics::bits::ictz` meets its contract: the trailing zeros among 64 bits, and at most N. Assumes nothing.
+-- `numerics::bits::ictz` meets its contract: the trailing zeros among 64 bits, and at most N.
 use borrow.Author.Needs.{needs}
 use Rattle.numerics.specs.Numerics.{ictz, trailing}
 use mathlib.Core.Path.{ap, _∙_}

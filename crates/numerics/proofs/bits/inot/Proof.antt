@@ -1,4 +1,4 @@
--- `numerics::bits::inot` meets its contract: N set bits less the number. Assumes nothing.
+-- `numerics::bits::inot` meets its contract: N set bits less the number.
 use borrow.Author.Needs.{needs}
 use Rattle.numerics.specs.Numerics.{inot}
 use Rattle.numerics.proofs.Answers.{unary-is, outside}

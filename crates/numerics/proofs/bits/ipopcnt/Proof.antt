@@ -1,4 +1,4 @@
--- `numerics::bits::ipopcnt` meets its contract: a number below 2 ^ N has no bits set but its lowest N. Assumes nothing.
+-- `numerics::bits::ipopcnt` meets its contract: a number below 2 ^ N has no bits set but its lowest N.
 use borrow.Author.Needs.{needs}
 use Rattle.numerics.specs.Numerics.{ipopcnt, ones}
 use mathlib.Core.Path.{ap, _∙_}

@@ -1,4 +1,4 @@
--- `numerics::bits::irotl` meets its contract: the rotate is the definition's, at the reduced operand and distance. Assumes nothing.
+-- `numerics::bits::irotl` meets its contract: the rotate is the definition's, at the reduced operand and distance.
 use borrow.Author.Needs.{needs}
 use Rattle.numerics.specs.Numerics.{irotl, rotated-left}
 use mathlib.Core.Path.{ap₂, _∙_}

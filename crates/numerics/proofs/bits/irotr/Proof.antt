@@ -1,4 +1,4 @@
--- `numerics::bits::irotr` meets its contract: a rotate to the right is one to the left, and none at distance 0. Assumes nothing.
+-- `numerics::bits::irotr` meets its contract: a rotate to the right is one to the left, and none at distance 0.
 use borrow.Author.Needs.{needs}
 use Rattle.numerics.specs.Numerics.{irotr, rotated-right}
 use mathlib.Core.Path.{ap₂, _∙_, sym}

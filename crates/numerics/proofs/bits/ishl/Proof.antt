@@ -1,4 +1,4 @@
--- `numerics::bits::ishl` meets its contract: 64 bits of the shifted number hold its lowest N. Assumes nothing.
+-- `numerics::bits::ishl` meets its contract: 64 bits of the shifted number hold its lowest N.
 use borrow.Author.Needs.{needs}
 use Rattle.numerics.specs.Numerics.{ishl, shifted-left}
 use mathlib.Core.Path.{ap₂, _∙_, refl}

@@ -1,4 +1,4 @@
--- `numerics::bits::ishr_u` meets its contract: the shift is the definition's, at the reduced operand and distance. Assumes nothing.
+-- `numerics::bits::ishr_u` meets its contract: the shift is the definition's, at the reduced operand and distance.
 use borrow.Author.Needs.{needs}
 use Rattle.numerics.specs.Numerics.{ishr-u, shifted-right}
 use mathlib.Core.Path.{ap₂}

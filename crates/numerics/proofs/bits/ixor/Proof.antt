@@ -1,4 +1,4 @@
--- `numerics::bits::ixor` meets its contract: the lowest N bits of both operands decide the lowest N of the result. Assumes nothing.
+-- `numerics::bits::ixor` meets its contract: the lowest N bits of both operands decide the lowest N of the result.
 use borrow.Author.Needs.{needs}
 use Rattle.numerics.specs.Numerics.{ixor}
 use mathlib.Core.Path.{_∙_}

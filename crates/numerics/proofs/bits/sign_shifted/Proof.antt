@@ -1,4 +1,4 @@
--- `numerics::bits::sign_shifted` meets its contract: the sign's copies are added where the sign bit is set, and do not overlap what is left. Assumes nothing.
+-- `numerics::bits::sign_shifted` meets its contract: the sign's copies are added where the sign bit is set, and do not overlap what is left.
 use borrow.Author.Needs.{needs}
 use native.Mathlib.Nat.{div-le-self}
 use Rattle.numerics.proofs.Moves.{sign-shifted-fits, sign-shifted-low, sign-shifted-high}

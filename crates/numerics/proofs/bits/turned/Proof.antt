@@ -1,4 +1,4 @@
--- `numerics::bits::turned` meets its contract: both parts of the rotated number, which together stay below 2 ^ N. Assumes nothing.
+-- `numerics::bits::turned` meets its contract: both parts of the rotated number, which together stay below 2 ^ N.
 use borrow.Author.Needs.{needs}
 use mathlib.Core.Path.{refl}
 use Rattle.numerics.proofs.Moves.{rotated-fits, rotated-is}

@@ -1,4 +1,4 @@
--- `numerics::compare::at_most` meets its contract: each answer, from its test. Assumes nothing.
+-- `numerics::compare::at_most` meets its contract: each answer, from its test.
 use borrow.Author.Tests.{le-leb, lt-leb}
 use Rattle.numerics.proofs.compare.at_most.Statement.{statement}
 use Rattle.numerics.proofs.compare.at_most.Tie as tie

@@ -1,4 +1,4 @@
--- `numerics::compare::ieq` meets its contract: the test of the reduced operands. Assumes nothing.
+-- `numerics::compare::ieq` meets its contract: the test of the reduced operands.
 use borrow.Author.Needs.{needs}
 use Rattle.numerics.specs.Numerics.{ieq, truth}
 use lib.Dec.{eqb}

@@ -1,4 +1,4 @@
--- `numerics::compare::ieqz` meets its contract: the test of the reduced operand. Assumes nothing.
+-- `numerics::compare::ieqz` meets its contract: the test of the reduced operand.
 use borrow.Author.Needs.{needs}
 use Rattle.numerics.specs.Numerics.{ieqz, truth}
 use lib.Dec.{eqb}

@@ -1,4 +1,4 @@
--- `numerics::compare::ige_s` meets its contract: `ile_s` with the operands changed over, at any width. Assumes nothing.
+-- `numerics::compare::ige_s` meets its contract: `ile_s` with the operands changed over, at any width.
 use borrow.Author.Needs.{needs}
 use Rattle.numerics.specs.Numerics.{ige-s, ile-s}
 use Rattle.numerics.specs.Functions.{binary-at}

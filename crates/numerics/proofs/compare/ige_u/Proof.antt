@@ -1,4 +1,4 @@
--- `numerics::compare::ige_u` meets its contract: `ile_u` with the operands changed over, at any width. Assumes nothing.
+-- `numerics::compare::ige_u` meets its contract: `ile_u` with the operands changed over, at any width.
 use borrow.Author.Needs.{needs}
 use Rattle.numerics.specs.Numerics.{ige-u, ile-u}
 use Rattle.numerics.specs.Functions.{binary-at}

@@ -1,4 +1,4 @@
--- `numerics::compare::igt_s` meets its contract: `ilt_s` with the operands changed over, at any width. Assumes nothing.
+-- `numerics::compare::igt_s` meets its contract: `ilt_s` with the operands changed over, at any width.
 use borrow.Author.Needs.{needs}
 use Rattle.numerics.specs.Numerics.{igt-s, ilt-s}
 use Rattle.numerics.specs.Functions.{binary-at}

@@ -1,4 +1,4 @@
--- `numerics::compare::igt_u` meets its contract: `ilt_u` with the operands changed over, at any width. Assumes nothing.
+-- `numerics::compare::igt_u` meets its contract: `ilt_u` with the operands changed over, at any width.
 use borrow.Author.Needs.{needs}
 use Rattle.numerics.specs.Numerics.{igt-u, ilt-u}
 use Rattle.numerics.specs.Functions.{binary-at}

@@ -1,4 +1,4 @@
--- `numerics::compare::ile_s` meets its contract: the signed readings are in the order of the biased numbers. Assumes nothing.
+-- `numerics::compare::ile_s` meets its contract: the signed readings are in the order of the biased numbers.
 use borrow.Author.Needs.{needs}
 use Rattle.numerics.specs.Numerics.{ile-s, truth}
 use lib.Dec.{leb}

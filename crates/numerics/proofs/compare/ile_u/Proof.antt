@@ -1,4 +1,4 @@
--- `numerics::compare::ile_u` meets its contract: the test of the reduced operands. Assumes nothing.
+-- `numerics::compare::ile_u` meets its contract: the test of the reduced operands.
 use borrow.Author.Needs.{needs}
 use Rattle.numerics.specs.Numerics.{ile-u, truth}
 use lib.Dec.{leb}

@@ -1,4 +1,4 @@
--- `numerics::compare::ilt_s` meets its contract: the signed readings are in the order of the biased numbers. Assumes nothing.
+-- `numerics::compare::ilt_s` meets its contract: the signed readings are in the order of the biased numbers.
 use borrow.Author.Needs.{needs}
 use Rattle.numerics.specs.Numerics.{ilt-s, truth}
 use lib.Dec.{ltb}

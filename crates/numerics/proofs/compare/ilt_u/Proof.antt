@@ -1,4 +1,4 @@
--- `numerics::compare::ilt_u` meets its contract: the test of the reduced operands. Assumes nothing.
+-- `numerics::compare::ilt_u` meets its contract: the test of the reduced operands.
 use borrow.Author.Needs.{needs}
 use Rattle.numerics.specs.Numerics.{ilt-u, truth}
 use lib.Dec.{ltb}

@@ -1,4 +1,4 @@
--- `numerics::compare::ine` meets its contract: the test of the reduced operands, negated by a comparison with 0. Assumes nothing.
+-- `numerics::compare::ine` meets its contract: the test of the reduced operands, negated by a comparison with 0.
 use borrow.Author.Needs.{needs}
 use Rattle.numerics.specs.Numerics.{ine, truth}
 use lib.Dec.{eqb}

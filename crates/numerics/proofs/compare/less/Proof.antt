@@ -1,4 +1,4 @@
--- `numerics::compare::less` meets its contract: each answer, from its test. Assumes nothing.
+-- `numerics::compare::less` meets its contract: each answer, from its test.
 use borrow.Author.Tests.{lt-ltb, le-ltb}
 use Rattle.numerics.proofs.compare.less.Statement.{statement}
 use Rattle.numerics.proofs.compare.less.Tie as tie

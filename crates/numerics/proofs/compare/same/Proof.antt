@@ -1,4 +1,4 @@
--- `numerics::compare::same` meets its contract: each answer, from its test. Assumes nothing.
+-- `numerics::compare::same` meets its contract: each answer, from its test.
 use borrow.Author.Tests.{eq-eqb, ne-eqb}
 use Rattle.numerics.proofs.compare.same.Statement.{statement}
 use Rattle.numerics.proofs.compare.same.Tie as tie

@@ -1,4 +1,4 @@
--- `numerics::convert::extend_s` meets its contract: the biased number of width M, with the bias taken off at width N. Assumes nothing.
+-- `numerics::convert::extend_s` meets its contract: the biased number of width M, with the bias taken off at width N.
 use borrow.Author.Needs.{needs}
 use Rattle.numerics.specs.Numerics.{extend-s}
 use Rattle.numerics.proofs.Answers.{binary-of, widening-is, outside}

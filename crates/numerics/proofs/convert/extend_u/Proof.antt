@@ -1,4 +1,4 @@
--- `numerics::convert::extend_u` meets its contract: the reduced operand. Assumes nothing.
+-- `numerics::convert::extend_u` meets its contract: the reduced operand.
 use borrow.Author.Needs.{needs}
 use Rattle.numerics.specs.Numerics.{extend-u}
 use Rattle.numerics.proofs.Answers.{widening-is, outside}

@@ -1,4 +1,4 @@
--- `numerics::convert::wrap` meets its contract: the lowest N bits of the lowest M are the number's lowest N. Assumes nothing.
+-- `numerics::convert::wrap` meets its contract: the lowest N bits of the lowest M are the number's lowest N.
 use borrow.Author.Needs.{needs}
 use Rattle.numerics.specs.Numerics.{wrap}
 use mathlib.Core.Path.{sym, _∙_}

@@ -1,4 +1,4 @@
--- `numerics::saturate::iadd_sat_s` meets its contract: the biased sum, cut off at both ends. Assumes nothing.
+-- `numerics::saturate::iadd_sat_s` meets its contract: the biased sum, cut off at both ends.
 use borrow.Author.Needs.{needs}
 use Rattle.numerics.specs.Numerics.{iadd-sat-s}
 use Rattle.numerics.proofs.Answers.{binary-is, outside}

@@ -1,4 +1,4 @@
--- `numerics::saturate::iadd_sat_u` meets its contract: the sum, cut off at 2 ^ N - 1. Assumes nothing.
+-- `numerics::saturate::iadd_sat_u` meets its contract: the sum, cut off at 2 ^ N - 1.
 use borrow.Author.Needs.{needs}
 use Rattle.numerics.specs.Numerics.{iadd-sat-u, sat-u}
 use Rattle.numerics.proofs.Answers.{binary-is, outside}

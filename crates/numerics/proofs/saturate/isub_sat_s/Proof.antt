@@ -1,4 +1,4 @@
--- `numerics::saturate::isub_sat_s` meets its contract: the biased difference, cut off at both ends. Assumes nothing.
+-- `numerics::saturate::isub_sat_s` meets its contract: the biased difference, cut off at both ends.
 use borrow.Author.Needs.{needs}
 use Rattle.numerics.specs.Numerics.{isub-sat-s}
 use Rattle.numerics.proofs.Answers.{binary-is, outside}

@@ -1,4 +1,4 @@
--- `numerics::saturate::isub_sat_u` meets its contract: the difference, cut off at 0. Assumes nothing.
+-- `numerics::saturate::isub_sat_u` meets its contract: the difference, cut off at 0.
 use borrow.Author.Needs.{needs}
 use Rattle.numerics.specs.Numerics.{isub-sat-u}
 use Prim.Native.Nat.{_%_, _^_}

@@ -1,4 +1,4 @@
--- `numerics::width::all_ones` meets its contract: 64 set bits without their lowest 64 - N are N set bits. Assumes nothing.
+-- `numerics::width::all_ones` meets its contract: 64 set bits without their lowest 64 - N are N set bits.
 use borrow.Author.Needs.{needs}
 use Rattle.numerics.proofs.Modulo.{all-ones-is}
 use Rattle.numerics.proofs.width.all_ones.Statement.{statement}

@@ -1,4 +1,4 @@
--- `numerics::width::biased` meets its contract: adding half of 2 ^ N to an operand that is not reduced biases its reading. Assumes nothing.
+-- `numerics::width::biased` meets its contract: adding half of 2 ^ N to an operand that is not reduced biases its reading.
 use borrow.Author.Needs.{needs}
 use Rattle.numerics.proofs.Reading.{biased-is}
 use Rattle.numerics.proofs.width.biased.Statement.{statement}

@@ -1,4 +1,4 @@
--- `numerics::width::distance` meets its contract: a number below the width is its own remainder. Assumes nothing.
+-- `numerics::width::distance` meets its contract: a number below the width is its own remainder.
 use borrow.Author.Needs.{needs}
 use mathlib.Core.Path.{sym}
 use native.Mathlib.Nat.{mod-eq-of-lt}

@@ -1,4 +1,4 @@
--- `numerics::width::half` meets its contract: 1 shifted left by N - 1 places stays below 2 ^ 64. Assumes nothing.
+-- `numerics::width::half` meets its contract: 1 shifted left by N - 1 places stays below 2 ^ 64.
 use borrow.Author.Needs.{needs}
 use Rattle.numerics.proofs.Modulo.{half-is}
 use Rattle.numerics.proofs.width.half.Statement.{statement}

@@ -1,4 +1,4 @@
--- `numerics::width::low` meets its contract: masking with N set bits is taking the number modulo 2 ^ N. Assumes nothing.
+-- `numerics::width::low` meets its contract: masking with N set bits is taking the number modulo 2 ^ N.
 use borrow.Author.Needs.{needs}
 use lib.Bits.{and-mask}
 use Rattle.numerics.proofs.width.low.Statement.{statement}

@@ -1,4 +1,4 @@
--- `numerics::width::sign` meets its contract: the highest of N bits is the sign of the signed reading. Assumes nothing.
+-- `numerics::width::sign` meets its contract: the highest of N bits is the sign of the signed reading.
 use borrow.Author.Needs.{needs}
 use Rattle.numerics.proofs.Reading.{sign-is}
 use Rattle.numerics.proofs.width.sign.Statement.{statement}

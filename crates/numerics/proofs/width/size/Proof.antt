@@ -1,4 +1,4 @@
--- `numerics::width::size` meets its contract: the reading's size, from its two cases. Assumes nothing.
+-- `numerics::width::size` meets its contract: the reading's size, from its two cases.
 use borrow.Author.Needs.{needs}
 use Rattle.numerics.proofs.Reading.{size-low, size-high}
 use Rattle.numerics.proofs.Modulo.{pow-fits, half-twice}

@@ -2,26 +2,19 @@ use borrow.Author.Needs.{needs}
 use Rattle.ticket.proofs.AddLaws.{adding}
 use Rattle.ticket.proofs.adding.add_function.Statement.{statement}
 use Rattle.ticket.proofs.adding.add_function.Tie as tie
-use Rattle.ticket.proofs.adding.add_function.Reads as reads
-use Rattle.ticket.proofs.adding.add_function.Lts as lts
 
--- src/adding.rt:25:19
 arg-requires : tie.Need-arg-requires
 arg-requires c κs = search needs
 
--- src/adding.rt:26:15
 arg-requires-2 : tie.Need-arg-requires-2
 arg-requires-2 c κs = search needs
 
--- src/adding.rt:33:15
 add-t11 : tie.Need-add-t11
 add-t11 c = search needs
 
--- src/adding.rt:35:16
 add-t12 : tie.Need-add-t12
 add-t12 c = search needs
 
--- src/adding.rt:17:1
 returns : tie.Need-returns
 returns c = search (adding, needs)
 

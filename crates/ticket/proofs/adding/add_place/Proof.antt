@@ -2,42 +2,31 @@ use borrow.Author.Needs.{needs}
 use Rattle.ticket.proofs.AddLaws.{adding}
 use Rattle.ticket.proofs.adding.add_place.Statement.{statement}
 use Rattle.ticket.proofs.adding.add_place.Tie as tie
-use Rattle.ticket.proofs.adding.add_place.Reads as reads
-use Rattle.ticket.proofs.adding.add_place.Lts as lts
-use Rattle.ticket.proofs.rows.put_row.Reads as put-row-reads
 
 mul-put-row : tie.Need-mul-put-row
 mul-put-row c = search needs
 
--- src/adding.rt:131:19
 add-put-row : tie.Need-add-put-row
 add-put-row c = search needs
 
--- src/adding.rt:131:62
 add-put-row-2 : tie.Need-add-put-row-2
 add-put-row-2 c = search needs
 
--- src/adding.rt:131:5
 put-row-requires : tie.Need-put-row-requires
 put-row-requires c κs = search needs
 
--- src/adding.rt:139:17
 add-t10 : tie.Need-add-t10
 add-t10 c = search needs
 
--- src/adding.rt:141:15
 add-t13 : tie.Need-add-t13
 add-t13 c = search needs
 
--- src/adding.rt:143:16
 add-t12 : tie.Need-add-t12
 add-t12 c = search needs
 
--- src/adding.rt:127:1
 same-length : tie.Need-same-length
 same-length c = search needs
 
--- src/adding.rt:127:1
 returns : tie.Need-returns
 returns c = search (adding, needs)
 

@@ -2,18 +2,13 @@ use borrow.Author.Needs.{needs}
 use Rattle.ticket.proofs.ReadLaws.{last-zero, last-less}
 use Rattle.ticket.proofs.reading.but_root.Statement.{statement}
 use Rattle.ticket.proofs.reading.but_root.Tie as tie
-use Rattle.ticket.proofs.reading.but_root.Reads as reads
-use Rattle.ticket.proofs.reading.but_root.Lts as lts
 
--- src/reading.rt:54:28
 sub-result : tie.Need-sub-result
 sub-result c = search needs
 
--- src/reading.rt:51:1
 returns : tie.Need-returns
 returns c = search needs
 
--- src/reading.rt:51:1
 returns-2 : tie.Need-returns-2
 returns-2 c = (search (last-zero, last-less, needs), search needs)
 

@@ -2,35 +2,25 @@ use borrow.Author.Needs.{needs}
 use Rattle.ticket.proofs.ReadLaws.{end-left, end-none, end-accepted}
 use Rattle.ticket.proofs.reading.finish.Statement.{statement}
 use Rattle.ticket.proofs.reading.finish.Tie as tie
-use Rattle.ticket.proofs.reading.finish.Reads as reads
-use Rattle.ticket.proofs.reading.finish.Lts as lts
-use Rattle.ticket.proofs.reading.left_over.Reads as left-over-reads
 
--- src/reading.rt:71:11
 left-over-requires : tie.Need-left-over-requires
 left-over-requires c κs = search needs
 
--- src/reading.rt:72:21
 enum-known-n : tie.Need-enum-known-n
 enum-known-n c = search needs
 
--- src/reading.rt:74:16
 enum-told : tie.Need-enum-told
 enum-told c = search needs
 
--- src/reading.rt:75:47
 add-t8 : tie.Need-add-t8
 add-t8 c = search needs
 
--- src/reading.rt:75:17
 returns : tie.Need-returns
 returns c = search (end-left, end-none, end-accepted, needs)
 
--- src/reading.rt:67:1
 returns-2 : tie.Need-returns-2
 returns-2 c = search (end-left, end-none, end-accepted, needs)
 
--- src/reading.rt:67:1
 returns-3 : tie.Need-returns-3
 returns-3 c = search (end-left, end-none, end-accepted, needs)
 

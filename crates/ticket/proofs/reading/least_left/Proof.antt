@@ -5,9 +5,6 @@ use Rattle.ticket.specs.Answers.{leastOf, least-rows}
 use Rattle.ticket.proofs.ReadLaws.{rows-start, rows-next, rows-end}
 use Rattle.ticket.proofs.reading.least_left.Statement.{statement}
 use Rattle.ticket.proofs.reading.least_left.Tie as tie
-use Rattle.ticket.proofs.reading.least_left.Reads as reads
-use Rattle.ticket.proofs.reading.least_left.Lts as lts
-use Rattle.ticket.proofs.reading.with_row.Reads as with-row-reads
 
 abbrev Inv-loop : tie.InvT-loop
 Inv-loop rows base n least₀ k₀ least k = (k ≤ n) × (leastOf least ≡ least-rows rows base k (n - k) (leastOf least₀))
@@ -15,27 +12,21 @@ Inv-loop rows base n least₀ k₀ least k = (k ≤ n) × (leastOf least ≡ lea
 abbrev μ-loop : tie.MeasureT-loop
 μ-loop rows base n least₀ k₀ least k = k
 
--- src/reading.rt:44:5
 loop-holds : tie.Need-loop-holds Inv-loop μ-loop
 loop-holds c = (search needs, rows-start _ _ _ _)
 
--- src/reading.rt:45:9
 sub-k : tie.Need-sub-k Inv-loop μ-loop
 sub-k c = search needs
 
--- src/reading.rt:46:9
 with-row-requires : tie.Need-with-row-requires Inv-loop μ-loop
 with-row-requires c κs = search needs
 
--- src/reading.rt:44:5
 loop-less : tie.Need-loop-less Inv-loop μ-loop
 loop-less c = search needs
 
--- src/reading.rt:44:5
 loop-again : tie.Need-loop-again Inv-loop μ-loop
 loop-again c = (search needs, rows-next _ _ _ _ _ _ _ (c .before .before .loop .inv .1) (c .before .loop-test .taken) (c .before .before .loop .inv .0) (c .with-row .ensures))
 
--- src/reading.rt:38:1
 returns : tie.Need-returns Inv-loop μ-loop
 returns c = rows-end _ _ _ _ _ _ (c .before .loop .inv .1) (c .loop-test .left)
 

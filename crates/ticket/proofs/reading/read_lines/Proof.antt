@@ -7,8 +7,8 @@ use borrow.Author.Tests.{not-true, not-false}
 use native.Mathlib.Omega.{arith}
 use Rattle.spec.specs.Text.{split, line-feed}
 use Rattle.spec.specs.Read.{read-lines, start}
-use Rattle.ticket.specs.Rows.{Held, readingOf}
-use Rattle.ticket.specs.Keys.{Keyed}
+use Rattle.line_checks.specs.Rows.{Held, readingOf}
+use Rattle.line_checks.specs.Keys.{Keyed}
 use Rattle.ticket.proofs.ReadLaws.{ahead-of, lines-begin, lines-next, lines-stopped, lines-over}
 use Rattle.ticket.proofs.reading.read_lines.Statement.{statement}
 use Rattle.ticket.proofs.reading.read_lines.Tie as tie

@@ -2,27 +2,19 @@ use borrow.Author.Needs.{needs}
 use Rattle.ticket.proofs.JudgeLaws.{start-more}
 use Rattle.ticket.proofs.steps.right_start.Statement.{statement}
 use Rattle.ticket.proofs.steps.right_start.Tie as tie
-use Rattle.ticket.proofs.steps.right_start.Reads as reads
-use Rattle.ticket.proofs.steps.right_start.Lts as lts
-use Rattle.ticket.proofs.measures.type_number.Reads as type-number-reads
 
--- src/steps.rt:40:16
 type-number-requires : tie.Need-type-number-requires
 type-number-requires c κs = search needs
 
--- src/steps.rt:40:9
 returns : tie.Need-returns
 returns c = rw (c .before .if1 .taken, ← c .type-number .ensures)
 
--- src/steps.rt:43:16
 type-number-requires-2 : tie.Need-type-number-requires-2
 type-number-requires-2 c κs = search needs
 
--- src/steps.rt:43:9
 returns-2 : tie.Need-returns-2
 returns-2 c = rw (c .before .if2 .taken, ← c .type-number2 .ensures)
 
--- src/steps.rt:36:1
 returns-3 : tie.Need-returns-3
 returns-3 c = search (start-more, needs)
 

@@ -1,67 +1,49 @@
 use borrow.Author.Needs.{needs}
 use Rattle.ticket.proofs.steps.sized.Statement.{statement}
 use Rattle.ticket.proofs.steps.sized.Tie as tie
-use Rattle.ticket.proofs.steps.sized.Reads as reads
-use Rattle.ticket.proofs.steps.sized.Lts as lts
-use Rattle.ticket.proofs.measures.measure.Reads as measure-reads
 
--- src/steps.rt:86:32
 enum-told : tie.Need-enum-told
 enum-told c = search needs
 
--- src/steps.rt:87:28
 enum-told-2 : tie.Need-enum-told-2
 enum-told-2 c = search needs
 
--- src/steps.rt:87:28
 measure-requires : tie.Need-measure-requires
 measure-requires c κs = search needs
 
--- src/steps.rt:88:31
 enum-told-3 : tie.Need-enum-told-3
 enum-told-3 c = search needs
 
--- src/steps.rt:89:32
 enum-told-4 : tie.Need-enum-told-4
 enum-told-4 c = search needs
 
--- src/steps.rt:90:30
 enum-told-5 : tie.Need-enum-told-5
 enum-told-5 c = search needs
 
--- src/steps.rt:91:29
 enum-told-6 : tie.Need-enum-told-6
 enum-told-6 c = search needs
 
--- src/steps.rt:92:28
 enum-told-7 : tie.Need-enum-told-7
 enum-told-7 c = search needs
 
--- src/steps.rt:78:1
 returns : tie.Need-returns
 returns c = rw (c .enum-told .given .1)
 
--- src/steps.rt:78:1
 returns-2 : tie.Need-returns-2
 returns-2 c = rw (c .before .enum-told2 .given .1) (c .measure .ensures)
 
--- src/steps.rt:78:1
 returns-3 : tie.Need-returns-3
 returns-3 c = rw (c .enum-told3 .given .1)
 
--- src/steps.rt:78:1
 returns-4 : tie.Need-returns-4
 returns-4 c = rw (c .enum-told4 .given .1)
 
--- src/steps.rt:78:1
 returns-5 : tie.Need-returns-5
 returns-5 c = rw (c .enum-told5 .given .1)
 
--- src/steps.rt:78:1
 returns-6 : tie.Need-returns-6
 returns-6 c = rw (c .enum-told6 .given .1)
 
--- src/steps.rt:78:1
 returns-7 : tie.Need-returns-7
 returns-7 c = rw (c .enum-told7 .given .1)
 

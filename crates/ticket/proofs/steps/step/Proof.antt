@@ -1,69 +1,50 @@
 use borrow.Author.Needs.{needs}
 use native.Mathlib.Omega.{arith}
 use mathlib.Core.Path.{sym, _∙_, ap}
-use Rattle.ticket.specs.Steps.{verdictOf}
+use Rattle.line_checks.specs.Steps.{verdictOf}
 use Rattle.ticket.proofs.StepLaws.{form-half, few-passed, step-unformed, step-refused, step-passed, keyed-kept}
 use Rattle.ticket.proofs.steps.step.Statement.{statement}
 use Rattle.ticket.proofs.steps.step.Tie as tie
-use Rattle.ticket.proofs.steps.step.Reads as reads
-use Rattle.ticket.proofs.steps.step.Lts as lts
-use Rattle.ticket.proofs.checks.early.Reads as early-reads
-use Rattle.ticket.proofs.forms.line_form.Reads as line-form-reads
-use Rattle.ticket.proofs.steps.late.Reads as late-reads
 
--- src/steps.rt:214:30
 line-form-requires : tie.Need-line-form-requires
 line-form-requires c κs = search needs
 
--- src/steps.rt:214:22
 enum-known-form : tie.Need-enum-known-form
 enum-known-form c = search needs
 
--- src/steps.rt:215:9
 enum-told : tie.Need-enum-told
 enum-told c = search needs
 
--- src/steps.rt:215:9
 same-length : tie.Need-same-length
 same-length c = search needs
 
--- src/steps.rt:215:9
 returns : tie.Need-returns
 returns c = step-unformed _ _ _ _ _ (c .before .before .before .before .line-form .result) (c .before .before .before .before .line-form .ensures) (search needs)
 
--- src/steps.rt:217:11
 early-requires : tie.Need-early-requires
 early-requires c κs = let h = form-half _ _ _ _ _ (c .before .before .before .before .before .before .line-form .result) _ (c .before .before .before .before .before .before .line-form .ensures) (c .before .before .form .given .1) in omega (arith, c .before .before .before .before .before .before .line-form .kept .1 .0)
 
--- src/steps.rt:218:39
 enum-told-2 : tie.Need-enum-told-2
 enum-told-2 c = search needs
 
--- src/steps.rt:218:28
 late-requires : tie.Need-late-requires
 late-requires c κs = let h = form-half _ _ _ _ _ (c .before .before .before .before .before .before .before .before .before .before .before .line-form .result) _ (c .before .before .before .before .before .before .before .before .before .before .before .line-form .ensures) (c .before .before .before .before .before .before .before .form .given .1) in (search needs, search needs, keyed-kept _ _ _ _ (c .before .before .before .before .before .before .before .before .before .before .before .before .before .before .before .before .pre .0) (c .before .before .before .before .before .before .before .before .before .before .before .line-form .ensures .kept) (c .before .before .before .before .before .before .before .before .before .before .before .before .before .before .before .before .pre .2), omega (arith, c .before .before .before .before .before .before .before .before .before .before .before .line-form .kept .1 .0), few-passed (c .before .before .before .before .before .before .before .form .given .0 .0) (c .before .before .before .before .before .before .before .before .before .before .before .line-form .last .1 .0) (c .before .before .before .before .before .before .before .before .before .before .before .before .before .before .before .before .args .counts) (ap verdictOf (sym (c .before .before .enum-told2 .given .1)) ∙ c .before .before .before .before .early .ensures), search needs)
 
--- src/steps.rt:219:26
 enum-known-n : tie.Need-enum-known-n
 enum-known-n c = search needs
 
--- src/steps.rt:208:1
 same-length-2 : tie.Need-same-length-2
 same-length-2 c = search needs
 
--- src/steps.rt:208:1
 same-length-3 : tie.Need-same-length-3
 same-length-3 c = search needs
 
--- src/steps.rt:208:1
 returns-2 : tie.Need-returns-2
 returns-2 c = step-passed _ _ _ _ (c .before .before .before .before .before .before .before .before .before .before .before .before .before .before .before .before .before .before .before .pre .0) _ (c .before .before .before .before .before .before .before .before .before .before .before .before .before .before .line-form .result) _ (c .before .before .before .before .before .before .before .before .before .before .before .before .before .before .line-form .ensures) (c .before .before .before .before .before .before .before .before .before .before .form .given .1) (c .before .before .before .before .before .before .before .early .result) (c .before .before .before .before .before .before .before .early .ensures) (c .before .before .before .before .before .enum-told2 .given .1) _ _ (c .before .before .late .ensures)
 
--- src/steps.rt:208:1
 same-length-4 : tie.Need-same-length-4
 same-length-4 c = search needs
 
--- src/steps.rt:208:1
 returns-3 : tie.Need-returns-3
 returns-3 c = step-refused _ _ _ _ (c .before .before .before .before .before .before .before .before .before .before .before .before .before .before .before .pre .0) _ (c .before .before .before .before .before .before .before .before .before .before .line-form .result) _ (c .before .before .before .before .before .before .before .before .before .before .line-form .ensures) (c .before .before .before .before .before .before .form .given .1) (c .before .before .before .early .result) (c .before .before .before .early .ensures) _ (c .before .n .given .1)
 

@@ -1,67 +1,49 @@
 use borrow.Author.Needs.{needs}
 use Rattle.ticket.proofs.steps.types_right.Statement.{statement}
 use Rattle.ticket.proofs.steps.types_right.Tie as tie
-use Rattle.ticket.proofs.steps.types_right.Reads as reads
-use Rattle.ticket.proofs.steps.types_right.Lts as lts
-use Rattle.ticket.proofs.steps.type_right.Reads as type-right-reads
 
--- src/steps.rt:67:32
 enum-told : tie.Need-enum-told
 enum-told c = search needs
 
--- src/steps.rt:68:28
 enum-told-2 : tie.Need-enum-told-2
 enum-told-2 c = search needs
 
--- src/steps.rt:68:28
 type-right-requires : tie.Need-type-right-requires
 type-right-requires c κs = search needs
 
--- src/steps.rt:69:31
 enum-told-3 : tie.Need-enum-told-3
 enum-told-3 c = search needs
 
--- src/steps.rt:70:32
 enum-told-4 : tie.Need-enum-told-4
 enum-told-4 c = search needs
 
--- src/steps.rt:71:30
 enum-told-5 : tie.Need-enum-told-5
 enum-told-5 c = search needs
 
--- src/steps.rt:72:29
 enum-told-6 : tie.Need-enum-told-6
 enum-told-6 c = search needs
 
--- src/steps.rt:73:28
 enum-told-7 : tie.Need-enum-told-7
 enum-told-7 c = search needs
 
--- src/steps.rt:59:1
 returns : tie.Need-returns
 returns c = rw (c .enum-told .given .1)
 
--- src/steps.rt:59:1
 returns-2 : tie.Need-returns-2
 returns-2 c = rw (c .before .enum-told2 .given .1) (c .type-right .ensures)
 
--- src/steps.rt:59:1
 returns-3 : tie.Need-returns-3
 returns-3 c = rw (c .before .enum-told3 .given .1)
 
--- src/steps.rt:59:1
 returns-4 : tie.Need-returns-4
 returns-4 c = rw (c .before .enum-told4 .given .1)
 
--- src/steps.rt:59:1
 returns-5 : tie.Need-returns-5
 returns-5 c = rw (c .before .enum-told5 .given .1)
 
--- src/steps.rt:59:1
 returns-6 : tie.Need-returns-6
 returns-6 c = rw (c .before .enum-told6 .given .1)
 
--- src/steps.rt:59:1
 returns-7 : tie.Need-returns-7
 returns-7 c = rw (c .before .enum-told7 .given .1)
 
