@@ -6,7 +6,7 @@ use lir::InstructionKind;
 use lir::Purpose;
 use lir::StorageId;
 use lir::StorageKind;
-ghost use mathlib.Core.List.{_∷_};
+ghost use mathlib.Core.List.{_∷_, []};
 ghost use Rattle.spec.specs.Lir as spec-lir;
 ghost use Rattle.spec.specs.Allocation.{allocate-sized};
 ghost use Rattle.emission.specs.Appends.{Room};

@@ -1,6 +1,6 @@
 -- What filling a temporary and reading it leave.
 use mathlib.Core.Path.{_≡_, refl, sym, ap, subst, _∙_}
-use mathlib.Core.List.{List, _∷_, append-nil}
+use mathlib.Core.List.{List, _∷_, append-nil, []}
 use mathlib.Core.Option.{none, some}
 use Prim.Native.Nat.{ℕ, zero, suc, _+_, _*_, _%_, _≤_}
 use native.Mathlib.Omega.{arith}

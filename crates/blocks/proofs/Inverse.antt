@@ -1,7 +1,7 @@
 -- Transposing and transposing back undo each other, and mirroring undoes itself.
 use Prim.Native.Nat.{ℕ, suc, _+_, _-_, _*_, _/_, _%_, _≤_, _<_}
 use mathlib.Core.Path.{_≡_, refl, ap, ap₂, _∙_}
-use mathlib.Core.List.{List, _∷_}
+use mathlib.Core.List.{List, _∷_, []}
 use native.Mathlib.Omega.{arith}
 use native.Mathlib.Nat.{zero-add}
 use lib.ListN.{length, getD}

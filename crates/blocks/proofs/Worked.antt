@@ -1,7 +1,7 @@
 -- Worked blocks, bytes and refusals, by computation.
 use Prim.Native.Nat.{ℕ}
 use mathlib.Core.Path.{_≡_, refl}
-use mathlib.Core.List.{List, _∷_, _++_}
+use mathlib.Core.List.{List, _∷_, _++_, []}
 use lib.ListN.{replicate}
 use Rattle.spec.specs.Answer.{refused, accepted}
 use Rattle.blocks.specs.Blocks.{bit, packed, listed, gathered-byte, rearranged, transposed, transposed-back, mirrored, all-mirrored}

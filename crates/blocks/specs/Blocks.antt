@@ -2,7 +2,7 @@
 -- byte v of the block has valve v + 1, day d as bit d.
 use Prim.Native.Nat.{ℕ, zero, suc, _+_, _-_, _*_, _/_, _%_, _^_, _<_}
 use mathlib.Core.Path.{_≡_}
-use mathlib.Core.List.{List, _∷_, map}
+use mathlib.Core.List.{List, _∷_, map, []}
 use lib.ListN.{length, getD}
 
 abbrev pub block-length : ℕ

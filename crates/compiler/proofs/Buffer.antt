@@ -20,8 +20,8 @@ use Rattle.spec.specs.Answer.{accepted, of-reading, answer, left-in}
 use Rattle.spec.specs.Answer as spec-answer
 use Rattle.spec.proofs.Demand2.{demand-2, whole-expression}
 use Rattle.spec.proofs.Demand3.{demand-3}
-use Rattle.compiler.specs.declared.Answer.{Answer}
-use Rattle.compiler.specs.Shown.{Answers}
+use Rattle.answers.specs.declared.Answer.{Answer}
+use Rattle.answers.specs.Answers.{Answers}
 
 -- the tables of a ticket that is accepted
 pub record Read (ticket : List ℕ) : Type 0 where

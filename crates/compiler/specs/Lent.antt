@@ -7,7 +7,7 @@ use lib.ListN.{length}
 use Rattle.spec.specs.Ticket.{Tables}
 use Rattle.spec.specs.Read.{read-ticket, accepted}
 use Rattle.line_checks.specs.Rows.{rows-length}
-use Rattle.compiler.specs.Sections.{all-weights}
+use Rattle.sections.specs.Sections.{all-weights}
 
 -- fewer marks than storages, or fewer than eight words of stack for each record of the nodes' values
 abbrev pub FewWords : Tables → ℕ → ℕ → Type 0

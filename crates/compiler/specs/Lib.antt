@@ -1,3 +1,2 @@
-pub mod Shown
-pub mod Sections
+pub mod Tries
 pub mod Lent

@@ -1,6 +1,6 @@
 -- What a pointer's offset leaves: two bytes added to two, in a new pointer.
 use mathlib.Core.Path.{_≡_, _∙_}
-use mathlib.Core.List.{List, append-nil}
+use mathlib.Core.List.{List, append-nil, []}
 use mathlib.Core.Option.{none, some}
 use Prim.Native.Nat.{ℕ, _≤_, _<_}
 use native.Mathlib.Omega.{arith}

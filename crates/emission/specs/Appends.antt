@@ -1,6 +1,6 @@
 -- What a step appends: storages and instructions, as texts behind those that stand there, with the counters advanced.
 use mathlib.Core.Path.{_≡_, refl}
-use mathlib.Core.List.{List, _∷_, _++_, append-assoc, append-nil}
+use mathlib.Core.List.{List, _∷_, _++_, append-assoc, append-nil, []}
 use Prim.Native.Nat.{ℕ, _+_, _≤_}
 use native.Mathlib.Omega.{arith}
 use lib.ListN.{length, length-append}

@@ -1,6 +1,6 @@
 -- The forms of `binary-instructions` and `unary-instructions`, and the part of comparing behind `integer-width` and `value-bytes`.
 use mathlib.Core.Path.{_≡_, refl, ap, _∙_}
-use mathlib.Core.List.{List, _∷_}
+use mathlib.Core.List.{List, _∷_, []}
 use mathlib.Core.Option.{Option, none, some}
 use Prim.Native.Nat.{ℕ, _+_, _%_, _≤_}
 use native.Mathlib.Omega.{arith}

@@ -1,7 +1,7 @@
 -- The definitions' lists of instructions, as tables of `byte-kind`.
 use mathlib.Core.Path.{_≡_, refl, _∙_}
 use mathlib.Core.Bool.{Bool, true, false, _&&_, false≢true}
-use mathlib.Core.List.{List, _∷_}
+use mathlib.Core.List.{List, _∷_, []}
 use mathlib.Core.Option.{Option, none, some}
 use Prim.Native.Nat.{ℕ, suc, _+_, _-_, _*_, _%_, _≤_, _<_, min}
 use native.Mathlib.Omega.{arith}

@@ -21,7 +21,7 @@ use lir::StorageId;
 use lir::StorageKind;
 use lir::TemporaryId;
 ghost use mathlib.Core.Path.{_≡_};
-ghost use mathlib.Core.List.{_∷_};
+ghost use mathlib.Core.List.{_∷_, []};
 ghost use mathlib.Core.Option.{some};
 ghost use Prim.Native.Nat.{ℕ, _+_, _-_, _*_, _%_, _^_, _<_, min};
 ghost use lib.Dec.{eqb};

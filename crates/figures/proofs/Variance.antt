@@ -2,7 +2,7 @@
 use Prim.Native.Nat.{ℕ, _+_, _-_, _*_, _≤_, _<_}
 use mathlib.Core.Path.{_≡_, refl, _∙_}
 use mathlib.Core.Bool.{Bool, true, false}
-use mathlib.Core.List.{List, _∷_}
+use mathlib.Core.List.{List, _∷_, []}
 use native.Mathlib.Omega.{arith}
 use native.Mathlib.Nat.{mul-sub, le-of-mul-le-mul-left}
 use lib.Dec.{leb}

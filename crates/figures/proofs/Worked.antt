@@ -1,7 +1,7 @@
 -- Worked cases by computation: document 01's printed `done` line, figures of several lines, and each refusal.
 use Prim.Native.Nat.{ℕ, zero, suc}
 use mathlib.Core.Path.{_≡_, refl}
-use mathlib.Core.List.{List, _∷_, _++_}
+use mathlib.Core.List.{List, _∷_, _++_, []}
 use Rattle.spec.specs.Text as text
 use Rattle.spec.specs.Text.{text as lines-of, bytes}
 use Rattle.spec.specs.Answer.{refused, accepted, fitted}

@@ -1,6 +1,6 @@
 -- The two lines of the tender annex: for instructions, then for new storages, count, least, greatest, mean and population variance.
 use Prim.Native.Nat.{ℕ, _+_, _-_, _*_, min, max}
-use mathlib.Core.List.{List, _∷_, _++_}
+use mathlib.Core.List.{List, _∷_, _++_, []}
 use lib.ListN.{length}
 use Rattle.spec.specs.Text.{digits, line}
 use Rattle.figures.specs.Fraction.{Fraction, lowest}

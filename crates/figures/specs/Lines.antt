@@ -1,7 +1,7 @@
 -- Reading `done` lines, with the refusals 41 and 42, and the answer for every text and every lent buffer.
 use Prim.Native.Nat.{ℕ, suc}
 use mathlib.Core.Bool.{true, false, _&&_}
-use mathlib.Core.List.{List, _∷_}
+use mathlib.Core.List.{List, _∷_, []}
 use mathlib.Core.Option.{Option, none, some}
 use lib.Dec.{leb}
 use Rattle.spec.specs.Text.{bytes, same, split, comma, line-feed}

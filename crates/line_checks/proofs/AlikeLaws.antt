@@ -1,7 +1,7 @@
 -- Words that differ in marks alone hold the same depths.
 use mathlib.Core.Path.{_≡_, refl, ap}
 use mathlib.Core.Bool.{Bool, true, false}
-use mathlib.Core.List.{List, _∷_}
+use mathlib.Core.List.{List, [], _∷_}
 use Prim.Native.Nat.{ℕ, _<_}
 use lib.Dec.{ltb, lit<}
 use borrow.Author.Tests.{eqb-false}

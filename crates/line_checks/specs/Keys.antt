@@ -2,8 +2,8 @@
 -- 4 behind all rows say which keys the types have, so that a type of a new key need not be compared with the others.
 use Prim.Native.Nat.{ℕ, _+_, _*_, _/_, _%_, _<_}
 use mathlib.Core.Path.{_≡_}
-use mathlib.Core.Bool.{Bool, true}
-use mathlib.Core.List.{List, _∷_}
+use mathlib.Core.Bool.{Bool, true, _||_}
+use mathlib.Core.List.{List, _∷_, []}
 use lib.Dec.{eqb}
 use lib.ListN.{length, getD, set}
 use Rattle.tables.specs.Tables.{pick, row-of, type-word-by}

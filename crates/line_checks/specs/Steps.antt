@@ -2,7 +2,7 @@
 use Prim.Native.Nat.{ℕ, _+_, _<_, max}
 use mathlib.Core.Path.{_≡_}
 use mathlib.Core.Bool.{Bool, true, false, not, _&&_}
-use mathlib.Core.List.{List, _∷_}
+use mathlib.Core.List.{List, _∷_, []}
 use mathlib.Core.Option.{Option, none, some}
 use lib.Dec.{eqb, leb, ltb}
 use Rattle.tables.specs.Tables.{pick, row-of, run, places-from, cell}

@@ -1,6 +1,6 @@
 // The tests of a line, each for one refusal of document 01's table.
 ghost use mathlib.Core.Path.{_≡_};
-ghost use mathlib.Core.Bool.{_&&_};
+ghost use mathlib.Core.Bool.{_&&_, _||_};
 ghost use Prim.Native.Nat.{_+_, _≤_, _<_, max};
 ghost use lib.ListN.{length};
 ghost use Rattle.tables.specs.Tables.{run};

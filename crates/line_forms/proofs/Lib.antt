@@ -1,5 +1,5 @@
 pub mod FormLaws
 pub mod LineForms
 pub mod Classed
-pub mod Numbered
+pub mod NumberLaws
 pub mod Tries

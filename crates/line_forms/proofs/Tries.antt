@@ -1,6 +1,6 @@
 -- Where each word of a kind of line stands among the words.
 use mathlib.Core.Path.{refl}
-use mathlib.Core.List.{_∷_}
+use mathlib.Core.List.{_∷_, []}
 use Prim.Native.Nat.{ℕ, zero, suc}
 use native.Mathlib.Omega.{arith}
 use lib.ListN.{getD}

@@ -1,6 +1,6 @@
 -- `storage,k,` as it is printed: 29 bytes at most, and they stand in front of the array.
 use mathlib.Core.Path.{_≡_, refl, ap, _∙_}
-use mathlib.Core.List.{List, _∷_, _++_, append-assoc}
+use mathlib.Core.List.{List, _∷_, _++_, append-assoc, []}
 use Prim.Native.Nat.{ℕ, zero, suc, _+_, _/_, _%_, _^_, _≤_, _<_}
 use native.Mathlib.Omega.{arith}
 use native.Mathlib.Nat.{pow-suc}

@@ -1,5 +1,5 @@
 -- Document 01's printed case, and what sets a line apart from those that look like it: one list with one claim that is computed.
-use mathlib.Core.List.{List, _∷_, map}
+use mathlib.Core.List.{List, _∷_, map, []}
 use mathlib.Core.Path.{_≡_, refl}
 use Prim.Native.Nat.{ℕ}
 use Prim.Native.String.{String}

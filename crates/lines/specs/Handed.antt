@@ -1,7 +1,7 @@
 -- The code's answers as the definitions': where a line lies, and the part of a text that is handed back.
 use Prim.Native.Nat.{ℕ, _+_, _≤_}
 use mathlib.Core.Path.{_≡_}
-use mathlib.Core.List.{List}
+use mathlib.Core.List.{List, []}
 use mathlib.Core.Option.{Option, none, some}
 use lib.ListN.{length, take, drop}
 use denote.Ref.{RefT, now}

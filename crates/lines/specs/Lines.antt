@@ -1,7 +1,7 @@
 -- The line of storage k: the ticket's k-th that begins `s,`, else the listing's first that begins `storage,k,` (change request E13).
 use Prim.Native.Nat.{ℕ, _+_}
 use mathlib.Core.Bool.{Bool, true, false}
-use mathlib.Core.List.{List, _∷_, _++_}
+use mathlib.Core.List.{List, _∷_, _++_, []}
 use mathlib.Core.Option.{Option, none, some}
 use lib.ListN.{length, take, getElem?}
 use Rattle.spec.specs.Text as text

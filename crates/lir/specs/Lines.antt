@@ -1,6 +1,6 @@
 -- The fields behind a value's type, one line a record of the value.
 use Prim.Native.Nat.{ℕ}
-use mathlib.Core.List.{List, _∷_}
+use mathlib.Core.List.{List, _∷_, []}
 use Rattle.spec.specs.Text as text
 use Rattle.spec.specs.Lir as lir
 use Rattle.spec.specs.Text.{digits}

@@ -1,6 +1,6 @@
 -- Fields put into a lent slice, each behind its comma; the lists and the lines that they make.
 use mathlib.Core.Path.{_≡_, refl, ap}
-use mathlib.Core.List.{List, _∷_, _++_, append-assoc, append-nil, map}
+use mathlib.Core.List.{List, _∷_, _++_, append-assoc, append-nil, map, []}
 use Prim.Native.Nat.{ℕ, zero, suc, _+_, _≤_}
 use native.Mathlib.Omega.{arith}
 use native.Mathlib.Nat.{add-zero}

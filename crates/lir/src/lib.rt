@@ -1,7 +1,7 @@
 // lir.rs's operands, instructions and storages by value. A value's bytes are a run of a storage's bytes or of a constant's, and zeros
 // behind it: constants, reads, truncation and extension all keep that form, so lists of operands need no room of their own.
 ghost use mathlib.Core.Path.{_≡_};
-ghost use mathlib.Core.List.{_∷_, _++_};
+ghost use mathlib.Core.List.{_∷_, _++_, []};
 ghost use Prim.Native.Nat.{_/_, _%_, _^_};
 ghost use Rattle.spec.specs.Text.{comma, digits};
 ghost use Rattle.spec.specs.Print.{byte-storage, byte-operand, bit-operand, carry-operand, listed, byte-binary-word, rotate-word, kind-number, kind-length, purpose-number, shift-number, compare-number, unary-number, binary-number, instruction-line, storage-line, narrowed-line, value-line, done-line};

@@ -4,7 +4,7 @@
 // Prints how many ran and how many were answered otherwise.
 ghost use Prim.Native.Nat.{_≤_};
 ghost use lib.ListN.{length};
-use compiler::Answer;
+use answers::Answer;
 use libc::STDIN_FILENO;
 use libc::STDOUT_FILENO;
 use text::Cursor;

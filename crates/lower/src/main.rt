@@ -1,7 +1,7 @@
 // `lower`: a ticket on standard input; its listing, or `refused,NUMBER,LINE`, on standard output.
 ghost use Prim.Native.Nat.{_+_, _≤_};
 ghost use lib.ListN.{length};
-use compiler::Answer;
+use answers::Answer;
 use libc::STDIN_FILENO;
 use libc::STDOUT_FILENO;
 

@@ -1,6 +1,6 @@
 -- What the lowering of a tree uses of the room that it has.
 use Prim.Native.Nat.{ℕ, suc, _+_, _*_, _≤_, zero-le}
-use mathlib.Core.List.{List, _∷_}
+use mathlib.Core.List.{List, _∷_, []}
 use mathlib.Core.Path.{_≡_, refl, sym, ap, _∙_}
 use native.Mathlib.Omega.{arith}
 use lib.ListN.{length, length-append}

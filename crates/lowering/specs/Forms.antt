@@ -6,7 +6,7 @@ use Rattle.spec.specs.Hir.{At, Exprs, boolean, null-pointer}
 use Rattle.spec.specs.Ticket.{Tables, exprAt, placeAt, exprsOf, integer-unary-op, integer-binary-op, compare-op, conversion-op}
 use Rattle.spec.specs.Readable.{node-sum, node-sums}
 use Rattle.spec.specs.Lir.{Value, value, aggregate}
-use Rattle.spec.specs.Monad.{Lower, pure, refuse, own}
+use Rattle.spec.specs.Monad.{Lower, pure, refuse, own, _>>=_}
 use Rattle.spec.specs.Arithmetic.{lower-integer-unary, lower-integer-binary}
 use Rattle.spec.specs.Conversions.{lower-compare, lower-conversion}
 use Rattle.spec.specs.Select.{lower-select, lower-address-of, lower-static-address, lower-function-address, lower-pointer-offset}

@@ -1,6 +1,6 @@
 -- Words turned round in place: a part of a slice mirrored, and two neighbours changed by three mirrorings.
 use mathlib.Core.Path.{_≡_, refl, sym, ap, _∙_}
-use mathlib.Core.List.{List, _∷_, _++_, append-assoc, reverse, reverse-cons, reverse-append, reverse-reverse}
+use mathlib.Core.List.{List, _∷_, _++_, append-assoc, reverse, reverse-cons, reverse-append, reverse-reverse, []}
 use Prim.Native.Nat.{ℕ, suc, _+_, _-_, _≤_, _<_}
 use native.Mathlib.Omega.{arith}
 use lib.ListN.{length, take, drop, set, getD, length-append, length-take, length-drop, length-reverse, take-append-drop}

@@ -1,6 +1,6 @@
 -- The operands of a value one by one: what a cursor has left to go through.
 use mathlib.Core.Path.{_≡_, refl, sym, ap, subst, _∙_}
-use mathlib.Core.List.{List, _∷_, _++_, map}
+use mathlib.Core.List.{List, _∷_, _++_, map, []}
 use Prim.Native.Nat.{ℕ, zero, suc, _+_, _≤_, _<_}
 use native.Mathlib.Omega.{arith}
 use native.Mathlib.Numerals.{add-one}

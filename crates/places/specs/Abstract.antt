@@ -9,7 +9,7 @@ use lib.ListN.{take}
 use Rattle.spec.specs.Limits.{offset-limit, type-size-limit}
 use Rattle.spec.specs.Ticket.{TypeWord, PlacedLine, Tables, type-size-by, sum, exprAt, placeAt}
 use Rattle.spec.specs.Readable.{PlacedRight}
-use Rattle.spec.specs.Monad.{Lower, pure, or-refuse, require}
+use Rattle.spec.specs.Monad.{Lower, pure, or-refuse, require, _>>=_, _>>_}
 use Rattle.spec.specs.Operands.{nth}
 use Rattle.spec.specs.Allocation.{type-size}
 use Rattle.spec.specs.Allocation as allocation

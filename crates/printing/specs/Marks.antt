@@ -1,7 +1,7 @@
 -- The storages that are marked, ascending.
 use Prim.Native.Nat.{ℕ, zero, suc}
 use mathlib.Core.Bool.{Bool, true, false}
-use mathlib.Core.List.{List, _∷_, _++_}
+use mathlib.Core.List.{List, _∷_, _++_, []}
 use lib.Dec.{eqb}
 use lib.ListN.{getD}
 use Rattle.spec.specs.Print.{each, narrowed-line}

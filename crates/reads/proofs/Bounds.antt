@@ -1,6 +1,6 @@
 -- How much reading a type appends, and how many records its value has: by its size and its weight.
 use mathlib.Core.Path.{_≡_, subst}
-use mathlib.Core.List.{List, _∷_, _++_}
+use mathlib.Core.List.{List, _∷_, _++_, []}
 use Prim.Native.Nat.{ℕ, zero, suc, _+_, _*_, _≤_, zero-le}
 use native.Mathlib.Omega.{arith}
 use lib.ListN.{length, length-append}

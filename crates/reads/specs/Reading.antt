@@ -5,7 +5,7 @@ use lib.ListN.{length, getD}
 use Rattle.spec.specs.Hir as hir
 use Rattle.spec.specs.Ticket.{Tables, typeAt, sum}
 use Rattle.spec.specs.Lir.{Value, value, unit, aggregate}
-use Rattle.spec.specs.Monad.{Lower, pure, refuse}
+use Rattle.spec.specs.Monad.{Lower, pure, refuse, _>>=_}
 use Rattle.spec.specs.ReadBytes.{read-bool-byte, read-plain, read-fields}
 use Rattle.lir.specs.declared.StorageId.{StorageId}
 use Rattle.lir.specs.declared.Source.{Source}

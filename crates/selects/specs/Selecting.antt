@@ -1,7 +1,7 @@
 -- What a select goes into, and what one piece of it and all of them leave.
 use mathlib.Core.Path.{_≡_}
 use mathlib.Core.Bool.{Bool, true, false, _&&_}
-use mathlib.Core.List.{List, _∷_}
+use mathlib.Core.List.{List, _∷_, []}
 use mathlib.Core.Option.{Option, none, some}
 use Prim.Native.Nat.{ℕ, _+_, _*_, _≤_}
 use lib.Dec.{eqb}
@@ -9,7 +9,7 @@ use lib.ListN.{length}
 use Rattle.spec.specs.Hir.{At}
 use Rattle.spec.specs.Lir.{BitOperand, ValueOperand, InstructionKind, select-byte, ValueStorage, bit-storage, byte-storage, Value}
 use Rattle.spec.specs.Ticket.{Tables}
-use Rattle.spec.specs.Monad.{Lower, done, refused, nothing, prepend, require}
+use Rattle.spec.specs.Monad.{Lower, done, refused, nothing, prepend, require, _>>_}
 use Rattle.spec.specs.Monad as monad
 use Rattle.spec.specs.Allocation.{Location, location-value-storages}
 use Rattle.spec.specs.ReadBytes.{read-location}

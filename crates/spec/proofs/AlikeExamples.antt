@@ -1,7 +1,7 @@
 -- Examples: 12 added to a 9-bit number, with other regions and with more variables and statics; and why the smaller ticket must be the accepted one.
 use Prim.Native.Nat.{ℕ}
 use Prim.Native.String.{String}
-use mathlib.Core.List.{List, _∷_, _++_}
+use mathlib.Core.List.{List, _∷_, _++_, []}
 use mathlib.Core.Path.{_≡_, refl}
 use Rattle.spec.specs.Text.{text, split, line-feed}
 use Rattle.spec.specs.Answer.{refused, accepted, answer, computing}

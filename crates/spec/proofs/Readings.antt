@@ -1,6 +1,6 @@
 -- The readings of document 01 that docs/DECISIONS.md records, by number: the smallest tickets that show each, as one list with one claim.
 use Prim.Native.String.{String}
-use mathlib.Core.List.{List, _∷_}
+use mathlib.Core.List.{List, _∷_, []}
 use mathlib.Core.Path.{refl}
 use Rattle.spec.specs.Text.{text}
 use Rattle.spec.specs.Answer.{computing, refused, accepted}

@@ -1,5 +1,5 @@
 -- Document 01's ★ lines: the printed case and every edge, as one list with one claim that is computed.
-use mathlib.Core.List.{List, _∷_}
+use mathlib.Core.List.{List, _∷_, []}
 use mathlib.Core.Path.{refl}
 use Rattle.spec.specs.Answer.{computing}
 use Rattle.spec.proofs.Cases.{Case, gives, refuses, Hold}

@@ -1,7 +1,7 @@
 -- The answer to every ticket and every lent buffer: read, lowered, printed; or a refusal's number and line.
 use Prim.Native.Nat.{ℕ, zero, suc}
-use mathlib.Core.Bool.{Bool, true, false}
-use mathlib.Core.List.{List, _∷_, _++_}
+use mathlib.Core.Bool.{Bool, true, false, _||_}
+use mathlib.Core.List.{List, _∷_, _++_, []}
 use lib.Dec.{eqb, leb}
 use lib.ListN.{length, drop}
 use Rattle.spec.specs.Text as text

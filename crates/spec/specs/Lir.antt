@@ -1,6 +1,6 @@
 -- lir.rs and the values of lir_lower.rs: operands, instructions, storages, values, and the listing that holds them.
 use Prim.Native.Nat.{ℕ}
-use mathlib.Core.List.{List, _∷_, _++_, map}
+use mathlib.Core.List.{List, _∷_, _++_, map, []}
 use mathlib.Core.Option.{Option}
 
 -- ---------------------------------------------------------------- operands

@@ -1,7 +1,7 @@
 -- A step of lowering: it appends storages, narrowed storages and instructions, advances two counters, and answers or refuses.
 use Prim.Native.Nat.{ℕ}
 use mathlib.Core.Bool.{Bool, true, false}
-use mathlib.Core.List.{List, _∷_, _++_}
+use mathlib.Core.List.{List, _∷_, _++_, []}
 use mathlib.Core.Option.{Option, none, some}
 use Rattle.spec.specs.Hir.{At}
 use Rattle.spec.specs.Lir.{Instruction, InstructionKind, Storage}

@@ -1,6 +1,6 @@
 -- The listing's text (document 01, 'Listing').
 use Prim.Native.Nat.{ℕ, suc}
-use mathlib.Core.List.{List, _∷_, _++_, map}
+use mathlib.Core.List.{List, _∷_, _++_, map, []}
 use mathlib.Core.Option.{Option, none, some}
 use lib.ListN.{length}
 use Rattle.spec.specs.Text.{digits, line}

@@ -1,7 +1,7 @@
 -- What a value's head holds, comparisons by their number, and a new bit that may be refused.
 use mathlib.Core.Path.{_≡_}
 use mathlib.Core.Bool.{Bool, true, false}
-use mathlib.Core.List.{List, _∷_}
+use mathlib.Core.List.{List, _∷_, []}
 use mathlib.Core.Option.{Option, none, some}
 use Prim.Native.Nat.{ℕ}
 use Rattle.spec.specs.Lir.{ByteOperand}

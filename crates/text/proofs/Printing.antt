@@ -1,7 +1,7 @@
 -- A number put digit by digit.
 use Prim.Native.Nat.{ℕ, _+_, _/_, _%_, _≤_, _<_}
 use mathlib.Core.Path.{_≡_}
-use mathlib.Core.List.{List, _∷_}
+use mathlib.Core.List.{List, _∷_, []}
 use native.Mathlib.Omega.{arith}
 use Rattle.spec.specs.Text.{digits}
 use Rattle.text.specs.Put.{Put, then}

@@ -1,7 +1,7 @@
 -- Fields at positions of a text, and the numbers and words in them.
 use Prim.Native.Nat.{ℕ, _+_}
-use mathlib.Core.Bool.{Bool, true, false, _&&_, cond}
-use mathlib.Core.List.{List, _∷_}
+use mathlib.Core.Bool.{Bool, true, false, _&&_, cond, _||_}
+use mathlib.Core.List.{List, _∷_, []}
 use mathlib.Core.Option.{Option, none, some}
 use lib.Dec.{eqb, ltb}
 use lib.ListN.{length, drop, getD}

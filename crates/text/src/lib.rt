@@ -1,6 +1,6 @@
 // Texts as bytes: decimal numbers, fields and lines.
 ghost use mathlib.Core.Path.{_≡_};
-ghost use mathlib.Core.List.{_∷_};
+ghost use mathlib.Core.List.{_∷_, []};
 ghost use Prim.Native.Nat.{_≤_, _<_};
 ghost use lib.ListN.{length};
 ghost use Rattle.spec.specs.Text.{digits};

@@ -1,7 +1,7 @@
 -- The code's step as `Read`'s: its tests by the words are those by the tables.
 use mathlib.Core.Path.{_≡_, refl, sym, ap, fun-ext, _∙_}
 use mathlib.Core.Bool.{Bool, true, false, _&&_}
-use mathlib.Core.List.{List, _∷_, _++_}
+use mathlib.Core.List.{List, _∷_, _++_, []}
 use mathlib.Core.Option.{Option, none, some}
 use Prim.Native.Nat.{ℕ, zero, suc, _+_, _*_, _≤_, _<_}
 use native.Mathlib.Omega.{arith}

@@ -1,7 +1,7 @@
 -- A reading with one line more, from the line's numbers and what is known of it.
 use Prim.Native.Nat.{ℕ, suc, _+_}
 use mathlib.Core.Path.{_≡_}
-use mathlib.Core.List.{List, _∷_, _++_}
+use mathlib.Core.List.{List, _∷_, _++_, []}
 use Rattle.tables.specs.Tables.{run, type-word-by, place-word-by, node-word-by}
 use Rattle.spec.specs.Ticket.{Tables, arg}
 use Rattle.spec.specs.Read.{Reading, rank, storage-line, placed-line, behind-type, new-used}

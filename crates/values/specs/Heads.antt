@@ -1,6 +1,6 @@
 -- A value as records in pre-order: its own head, and the heads of its parts.
 use mathlib.Core.Path.{_≡_, refl, sym, ap}
-use mathlib.Core.List.{List, _∷_, _++_, map, append-assoc, append-nil}
+use mathlib.Core.List.{List, _∷_, _++_, map, append-assoc, append-nil, []}
 use mathlib.Core.Option.{Option, none, some}
 use Prim.Native.Nat.{ℕ, zero, suc, _≤_}
 use native.Mathlib.Omega.{arith}

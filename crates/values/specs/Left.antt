@@ -1,6 +1,6 @@
 -- What a step leaves behind, and which outcome it was.
 use mathlib.Core.Path.{_≡_, refl, sym, ap, subst}
-use mathlib.Core.List.{List, _∷_, _++_, map, append-assoc}
+use mathlib.Core.List.{List, _∷_, _++_, map, append-assoc, []}
 use Prim.Native.Nat.{ℕ, _+_, _*_}
 use lib.ListN.{length, take, set}
 use Rattle.spec.specs.Lir.{BitOperand, Value, Values}

@@ -1,7 +1,7 @@
 -- The records on the value stack, read back; extract and select over them.
 use mathlib.Core.Path.{_≡_, refl, sym, ap, _∙_}
 use mathlib.Core.Bool.{_&&_}
-use mathlib.Core.List.{List, _∷_, _++_, map}
+use mathlib.Core.List.{List, _∷_, _++_, map, []}
 use Prim.Native.Nat.{ℕ, zero, suc, _+_, _-_, _*_, _≤_, _<_}
 use native.Mathlib.Omega.{arith}
 use lib.Dec.{eqb}
@@ -10,7 +10,7 @@ use lib.Seq.{drop-at, take-take, take-add, length-take-le}
 use Rattle.spec.specs.Hir.{At}
 use Rattle.spec.specs.Lir.{BitOperand, ValueOperand, Value}
 use Rattle.spec.specs.Ticket.{Tables}
-use Rattle.spec.specs.Monad.{Lower, Out, require}
+use Rattle.spec.specs.Monad.{Lower, Out, require, _>>=_, _>>_}
 use Rattle.spec.specs.Monad as monad
 use Rattle.spec.specs.Operands.{value-type}
 use Rattle.spec.specs.Allocation.{allocate-temporary, location-value-storages}

@@ -1,6 +1,6 @@
 -- Worked maps, computed: the list 12 and the mask of 2048 on a board of 12, the mask 12, the empty list, and the order of the refusals.
 use mathlib.Core.Path.{_≡_, refl}
-use mathlib.Core.List.{List, _∷_}
+use mathlib.Core.List.{List, _∷_, []}
 use mathlib.Core.Option.{some}
 use Prim.Native.Nat.{ℕ}
 use Rattle.spec.specs.Text.{bytes, text}

@@ -1,7 +1,7 @@
 -- A list's valves from field to field: those passed make a number, and what is left goes on from the last of them.
 use Prim.Native.Nat.{ℕ, suc, _+_, _-_, _*_, _%_, _^_, _≤_, _<_}
 use mathlib.Core.Path.{_≡_, refl, sym, ap, _∙_}
-use mathlib.Core.List.{List, _∷_}
+use mathlib.Core.List.{List, _∷_, []}
 use mathlib.Core.Option.{Option, none, some}
 use native.Mathlib.Omega.{arith}
 use native.Mathlib.Nat.{pow-suc, add-assoc, zero-add, add-zero, mod-eq-of-lt}

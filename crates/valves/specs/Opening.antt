@@ -1,6 +1,7 @@
 -- What a map's ticket reads as, and what it is to open valves: a run of the listing leaves the valves open that were, and those named.
+use mathlib.Core.Bool.{_||_}
 use Prim.Native.Nat.{ℕ, _-_, _/_, _%_, _^_, _≤_, _<_}
-use mathlib.Core.List.{List, _∷_, map}
+use mathlib.Core.List.{List, _∷_, map, []}
 use mathlib.Core.Option.{some}
 use mathlib.Core.Path.{_≡_}
 use lib.Dec.{eqb}

@@ -1,7 +1,7 @@
 -- The ticket that opens a map's valves, and the answer to every board, map and lent buffer.
 use Prim.Native.Nat.{ℕ, _+_, _/_, _≤_}
 use mathlib.Core.Bool.{true, false, _&&_}
-use mathlib.Core.List.{List, _∷_, _++_}
+use mathlib.Core.List.{List, _∷_, _++_, []}
 use mathlib.Core.Option.{Option, none, some}
 use mathlib.Core.Path.{_≡_}
 use lib.Dec.{eqb, leb}

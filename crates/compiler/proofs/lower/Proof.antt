@@ -1,32 +1,15 @@
--- Its own arrays are enough for every ticket.
+-- The small words first, and where they are too few the large ones.
 use borrow.Author.Needs.{needs}
-use Prim.Native.Nat.{ℕ}
-use native.Mathlib.Omega.{arith}
-use lib.ListN.{length, replicate, length-replicate}
-use Rattle.compiler.proofs.Laws.{tried-refused, tried-accepted, tried-short, never-short}
+use Rattle.compiler.proofs.Laws.{tried-refused, tried-accepted, tried-kept, answers-again}
 use Rattle.compiler.proofs.lower.Statement.{statement}
 use Rattle.compiler.proofs.lower.Tie as tie
+use Rattle.compiler.proofs.lower.Reads as reads
+use Rattle.compiler.proofs.lower.Lts as lts
+use Rattle.compiler.proofs.lower_large.Reads as lower-large-reads
+use Rattle.compiler.proofs.lower_small.Reads as lower-small-reads
 
-slice-aggregate-lower-in : tie.Need-slice-aggregate-lower-in
-slice-aggregate-lower-in c = search needs
-
-slice-aggregate-lower-in-2 : tie.Need-slice-aggregate-lower-in-2
-slice-aggregate-lower-in-2 c = search needs
-
-slice-aggregate-lower-in-3 : tie.Need-slice-aggregate-lower-in-3
-slice-aggregate-lower-in-3 c = search needs
-
-slice-aggregate-lower-in-4 : tie.Need-slice-aggregate-lower-in-4
-slice-aggregate-lower-in-4 c = search needs
-
-slice-aggregate-lower-in-5 : tie.Need-slice-aggregate-lower-in-5
-slice-aggregate-lower-in-5 c = search needs
-
-slice-aggregate-lower-in-6 : tie.Need-slice-aggregate-lower-in-6
-slice-aggregate-lower-in-6 c = search needs
-
-lower-in-requires : tie.Need-lower-in-requires
-lower-in-requires c κs = search needs
+lower-small-requires : tie.Need-lower-small-requires
+lower-small-requires c κs = search needs
 
 enum-known-n : tie.Need-enum-known-n
 enum-known-n c = search needs
@@ -37,38 +20,36 @@ enum-known-k c = search needs
 enum-told : tie.Need-enum-told
 enum-told c = search needs
 
+lower-large-requires : tie.Need-lower-large-requires
+lower-large-requires c κs = search needs
+
 same-length : tie.Need-same-length
 same-length c = search needs
 
 returns : tie.Need-returns
-returns c = tried-refused (c .before .before .before .before .before .before .before .before .before .before .before .lower-in .ensures) (c .before .n .given .1)
+returns c = tried-refused (c .before .before .before .before .before .lower-small .ensures) (c .before .n .given .1)
 
 same-length-2 : tie.Need-same-length-2
 same-length-2 c = search needs
 
 returns-2 : tie.Need-returns-2
-returns-2 c = tried-accepted (c .before .before .before .before .before .before .before .before .before .before .before .lower-in .ensures) (c .before .k .given .1)
+returns-2 c = tried-accepted (c .before .before .before .before .before .lower-small .ensures) (c .before .k .given .1)
 
 same-length-3 : tie.Need-same-length-3
 same-length-3 c = search needs
 
 returns-3 : tie.Need-returns-3
-returns-3 c = absurd (never-short (c .before .before .before .before .before .before .before .before .before .before .before .before .before .before .before .before .before .before .before .before .args .ticket .now) (length {A = ℕ} (replicate 10280 0)) (length {A = ℕ} (replicate 32768 0)) (length {A = ℕ} (replicate 256 0)) (length {A = ℕ} (replicate 16384 0)) (omega (arith, length-replicate {A = ℕ} 10280 0)) (omega (arith, length-replicate {A = ℕ} 32768 0)) (omega (arith, length-replicate {A = ℕ} 256 0)) (omega (arith, length-replicate {A = ℕ} 16384 0)) (tried-short (c .before .before .before .before .before .before .before .before .before .before .lower-in .ensures) (c .enum-told .given .1)))
+returns-3 c = answers-again (c .before .before .before .before .before .before .before .before .before .before .before .before .args .ticket .now) (tried-kept (c .before .before .before .before .before .before .before .before .lower-small .ensures) (c .before .before .before .before .enum-told .given .1)) (c .before .before .lower-large .ensures)
 
 pub lower-spec : {M : Type 1} → statement M
 lower-spec =
     tie.close
     (tie.spec
-    slice-aggregate-lower-in
-    slice-aggregate-lower-in-2
-    slice-aggregate-lower-in-3
-    slice-aggregate-lower-in-4
-    slice-aggregate-lower-in-5
-    slice-aggregate-lower-in-6
-    lower-in-requires
+    lower-small-requires
     enum-known-n
     enum-known-k
     enum-told
+    lower-large-requires
     same-length
     returns
     same-length-2

@@ -4,7 +4,8 @@ use mathlib.Core.Path.{refl, sym}
 use mathlib.Core.Logic.{inl, inr, ⊎-elim}
 use native.Mathlib.Omega.{arith}
 use lib.Seq.{length-take-le}
-use Rattle.compiler.proofs.Laws.{storage-count, ready-lent, tries-answer}
+use Rattle.sections.proofs.Laws.{storage-count}
+use Rattle.compiler.proofs.Laws.{ready-lent, tries-answer}
 use Rattle.compiler.proofs.lower_counted.Statement.{statement}
 use Rattle.compiler.proofs.lower_counted.Tie as tie
 

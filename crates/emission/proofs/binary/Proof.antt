@@ -1,5 +1,5 @@
 -- `emission::binary` meets its contract: refused without a width.
-use mathlib.Core.List.{_∷_}
+use mathlib.Core.List.{_∷_, []}
 use native.Mathlib.Omega.{arith}
 use borrow.Author.Needs.{needs}
 use Rattle.spec.specs.Arithmetic.{binary-instructions}

@@ -1,6 +1,6 @@
 use borrow.Author.Needs.{needs}
 use native.Mathlib.Omega.{arith}
-use Rattle.line_forms.proofs.Numbered.{numbered-laws, numbers-half}
+use Rattle.line_forms.proofs.NumberLaws.{numbered-laws, numbers-half}
 use Rattle.line_forms.proofs.numbered.Statement.{statement}
 use Rattle.line_forms.proofs.numbered.Tie as tie
 

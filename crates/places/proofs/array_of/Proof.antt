@@ -1,7 +1,7 @@
 -- `places::array_of` meets its contract: by the type's kind; any other is no array.
 use borrow.Author.Needs.{needs}
 use types.Run.{miss}
-use mathlib.Core.List.{_∷_}
+use mathlib.Core.List.{_∷_, []}
 use Rattle.places.proofs.Others.{no-array}
 use Rattle.places.proofs.array_of.Statement.{statement}
 use Rattle.places.proofs.array_of.Tie as tie

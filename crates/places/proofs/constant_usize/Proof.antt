@@ -2,7 +2,7 @@
 use borrow.Author.Needs.{needs}
 use mathlib.Core.Path.{sym, _∙_}
 use types.Run.{miss}
-use mathlib.Core.List.{_∷_}
+use mathlib.Core.List.{_∷_, []}
 use Rattle.spec.specs.Places.{constant-usize}
 use Rattle.tables.proofs.Laws.{tree-none, tree-here, readable-sized}
 use Rattle.places.proofs.Others.{no-constant}

@@ -1,7 +1,7 @@
 -- `places::fields_of` meets its contract: by the type's kind; any other has no fields.
 use borrow.Author.Needs.{needs}
 use types.Run.{miss}
-use mathlib.Core.List.{_∷_}
+use mathlib.Core.List.{_∷_, []}
 use Rattle.places.proofs.Others.{no-fields}
 use Rattle.places.proofs.fields_of.Statement.{statement}
 use Rattle.places.proofs.fields_of.Tie as tie

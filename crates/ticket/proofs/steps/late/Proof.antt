@@ -1,3 +1,4 @@
+use mathlib.Core.List.{[]}
 use borrow.Author.Needs.{needs}
 use mathlib.Core.Path.{ap}
 use mathlib.Core.Bool.{not}
