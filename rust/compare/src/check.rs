@@ -1,4 +1,4 @@
-//! Ours against the original, ticket by ticket.
+//! Ours against the original, ticket by ticket, in one room that is used again.
 
 use crate::{generator, samples, shrink::shrink, Options};
 use original::{Answer, Refusal};
@@ -9,7 +9,7 @@ use std::{
     time::Instant,
 };
 use tickets::{Kind, Rng};
-use wesknuft_lower::lower;
+use wesknuft_lower::Lowerer;
 
 /// Bytes on either side of a lent buffer.
 const GUARD: usize = 64;
@@ -79,7 +79,12 @@ fn original_answer(ticket: &[u8]) -> Result<Answer, Difference> {
 }
 
 /// Tries one ticket with buffers of several lengths.
-fn try_ticket(ticket: &[u8], expected: &Answer, salt: u64) -> Result<(), Difference> {
+fn try_ticket(
+    lowerer: &mut Lowerer,
+    ticket: &[u8],
+    expected: &Answer,
+    salt: u64,
+) -> Result<(), Difference> {
     let mut rng = Rng::new(salt);
     let rooms = match expected {
         Answer::Accepted(listing) => {
@@ -95,16 +100,22 @@ fn try_ticket(ticket: &[u8], expected: &Answer, salt: u64) -> Result<(), Differe
     };
     rooms
         .into_iter()
-        .try_for_each(|room| try_room(ticket, expected, room, rng.draw()))
+        .try_for_each(|room| try_room(lowerer, ticket, expected, room, rng.draw()))
 }
 
-fn try_room(ticket: &[u8], expected: &Answer, room: usize, salt: u64) -> Result<(), Difference> {
+fn try_room(
+    lowerer: &mut Lowerer,
+    ticket: &[u8],
+    expected: &Answer,
+    room: usize,
+    salt: u64,
+) -> Result<(), Difference> {
     let before: Vec<u8> = (0..room + 2 * GUARD)
         .map(|at| (salt >> (at % 57)) as u8 ^ at as u8)
         .collect();
     let mut after = before.clone();
     let mut sent = ticket.to_vec();
-    let answer = lower(&sent, &mut after[GUARD..GUARD + room]);
+    let answer = lowerer.lower(&sent, &mut after[GUARD..GUARD + room]);
 
     let kept = |part: std::ops::Range<usize>| {
         part.clone()
@@ -158,6 +169,7 @@ fn try_room(ticket: &[u8], expected: &Answer, room: usize, salt: u64) -> Result<
 /// Counts of a kind of ticket.
 #[derive(Default)]
 struct Tally {
+    lowerer: Lowerer,
     tickets: usize,
     bytes: usize,
     accepted: usize,
@@ -177,7 +189,7 @@ impl Tally {
             if printed.is_some_and(|printed| *printed != lower_prints(&expected)) {
                 return Err(Difference::Sample);
             }
-            try_ticket(ticket, &expected, salt)
+            try_ticket(&mut self.lowerer, ticket, &expected, salt)
         });
         let Err(difference) = outcome else { return };
         self.differences += 1;
@@ -189,12 +201,12 @@ impl Tally {
             Difference::Sample => ticket.to_vec(),
             _ => shrink(ticket, |ticket| {
                 original_answer(ticket)
-                    .and_then(|expected| try_ticket(ticket, &expected, salt))
+                    .and_then(|expected| try_ticket(&mut self.lowerer, ticket, &expected, salt))
                     .is_err()
             }),
         };
-        let again =
-            original_answer(&small).and_then(|expected| try_ticket(&small, &expected, salt));
+        let again = original_answer(&small)
+            .and_then(|expected| try_ticket(&mut self.lowerer, &small, &expected, salt));
         println!("  smallest ticket found ({} bytes):", small.len());
         for line in small.split_inclusive(|&byte| byte == b'\n') {
             println!("    {}", line.escape_ascii());
@@ -236,7 +248,11 @@ pub fn compare(options: &Options) -> Result<usize, String> {
     let mut kinds = options.kinds.clone();
     if kinds.is_empty() {
         kinds = Kind::ALL.iter().map(|kind| kind.to_string()).collect();
-        kinds.insert(0, "samples".into());
+        kinds.push("worst".into());
+        match options.samples {
+            Some(_) => kinds.insert(0, "samples".into()),
+            None => println!("samples    none: no folder of them is here"),
+        }
     }
     let mut differences = 0;
     for name in kinds {
@@ -251,8 +267,12 @@ pub fn compare(options: &Options) -> Result<usize, String> {
                     tally.take(&sample.name, &sample.ticket, printed, show, salt);
                 }
             }
-            "limits" => {
-                for (limit, ticket) in tickets::limits() {
+            "limits" | "worst" => {
+                let all = match name.as_str() {
+                    "limits" => tickets::limits(),
+                    _ => tickets::worst(),
+                };
+                for (limit, ticket) in all {
                     let salt = tally.tickets as u64;
                     tally.take(limit, ticket, None, show, salt);
                 }

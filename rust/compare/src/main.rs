@@ -13,10 +13,10 @@ const USAGE: &str = "\
 compare [OPTIONS]: compares ours with the original
 
   --count N      tickets of each random kind (default 10000); every ticket of
-                 the kinds samples and limits is tried, whatever N is
+                 the kinds samples, limits and worst is tried, whatever N is
   --seed N       another seed gives other tickets (default 1)
   --kind KIND    only this kind; may be given again. Kinds: samples, single,
-                 singleany, typed, deep, mixed, wild, damaged, limits
+                 singleany, typed, deep, mixed, wild, damaged, limits, worst
   --samples DIR  the folder of the NAME.in and NAME.out files
   --show N       how many differences of a kind are shown (default 3)
   --self         compare the original's answers with the samples, and no more

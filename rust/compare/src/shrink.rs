@@ -7,7 +7,7 @@ use std::time::{Duration, Instant};
 const TIME: Duration = Duration::from_secs(20);
 
 /// The smallest ticket found that fails, going down greedily.
-pub fn shrink(ticket: &[u8], fails: impl Fn(&[u8]) -> bool) -> Vec<u8> {
+pub fn shrink(ticket: &[u8], mut fails: impl FnMut(&[u8]) -> bool) -> Vec<u8> {
     let start = Instant::now();
     let mut best = ticket.to_vec();
     loop {

@@ -6,11 +6,13 @@ mod damage;
 mod limits;
 mod random;
 mod words;
+mod worst;
 
 pub use damage::damage;
 pub use limits::{accepted_at_limits, limits, padded};
 pub use random::Rng;
 pub use words::Words;
+pub use worst::worst;
 
 use build::{Builder, Style};
 use std::{fmt, str::FromStr};

@@ -2,10 +2,11 @@
 
 use std::sync::OnceLock;
 
+/// The lines before those of a ticket here.
 const HEAD: &str = "f,0,0\nt,bool\nt,pointer\n";
 
 /// A name that says which limit, and the ticket.
-type Named = (String, Vec<u8>);
+pub type Named = (String, Vec<u8>);
 
 /// All tickets near limits.
 pub fn limits() -> &'static [Named] {
@@ -63,7 +64,7 @@ pub fn accepted_at_limits() -> Vec<Named> {
     large
 }
 
-fn text<S: AsRef<str>>(lines: &[S]) -> Vec<u8> {
+pub fn text<S: AsRef<str>>(lines: &[S]) -> Vec<u8> {
     let mut text = HEAD.to_string();
     for line in lines {
         text += line.as_ref();

@@ -9,13 +9,14 @@
 
 static uint8_t ticket[65537];
 static uint8_t buffer[65536];
+static struct wesknuft_room room;
 
 int main(void) {
     size_t length;
     uint64_t number, line;
     /* One byte over the limit is enough to have an overlong ticket refused. */
     size_t got = fread(ticket, 1, sizeof ticket, stdin);
-    if (!wesknuft_lower(ticket, got, buffer, sizeof buffer, &length, &number, &line)) {
+    if (!wesknuft_lower(ticket, got, buffer, sizeof buffer, &room, &length, &number, &line)) {
         printf("refused,%" PRIu64 ",%" PRIu64 "\n", number, line);
         return 1;
     }

@@ -9,6 +9,10 @@
 //! the answer, and each byte of the buffer, are those of its definitions. This
 //! crate is the safe Rust over it.
 //!
+//! A [`Lowerer`] owns the room that lowering works in and uses it again from
+//! ticket to ticket. The plain functions [`lower`] and [`lower_to_vec`] lend a
+//! room that the thread keeps.
+//!
 //! ```
 //! let ticket = b"f,0,0
 //! t,bool
@@ -44,10 +48,44 @@
 //! );
 //! # Ok::<(), wesknuft_lower::Refusal>(())
 //! ```
+//!
+//! # Heap
+//!
+//! A room has [`ROOM_SIZE`] bytes. It is made with a [`Lowerer`], or when a
+//! thread first calls a plain function, and given back with it. Lowering itself
+//! asks for no heap; `lower_to_vec` asks for the listing's.
+//!
+//! # Stack
+//!
+//! A thread of [`STACK`] bytes answers every ticket at all.
 
+mod room;
 mod sys;
 
-use std::{error::Error, fmt};
+use room::Room;
+use std::{cell::RefCell, error::Error, fmt};
+use sys::Answer;
+
+/// The heap, in bytes, of a [`Lowerer`], and of a thread that has called a plain
+/// function.
+pub const ROOM_SIZE: usize = room::SIZE;
+
+/// The stack, in bytes, of a thread in which every ticket at all is answered,
+/// what the thread needs to start included.
+///
+/// It is measured, not proved: the program `soak --stack` answers the worst
+/// tickets that are known in a thread of just this stack.
+///
+/// ```
+/// use std::thread;
+/// use wesknuft_lower::{Lowerer, STACK};
+///
+/// let work = || Lowerer::new().lower_to_vec(b"f,0,0\nt,bool\nt,pointer\nn,1,null\n");
+/// let thread = thread::Builder::new().stack_size(STACK).spawn(work)?;
+/// assert!(thread.join().unwrap().is_ok());
+/// # Ok::<(), std::io::Error>(())
+/// ```
+pub const STACK: usize = 131_072;
 
 /// The number of the refusal of a buffer that is too short.
 pub const BUFFER_TOO_SHORT: u64 = 28;
@@ -111,60 +149,94 @@ impl fmt::Display for Refusal {
 
 impl Error for Refusal {}
 
-/// Lowers a ticket. The listing is written to the front of `buffer`, and the
-/// answer is its length.
+/// Lowers tickets in a room of its own, which it uses again from ticket to
+/// ticket.
 ///
-/// Bytes of `buffer` past the length keep their content; after a refusal all
-/// of them do. A listing that does not fit is refused with
-/// [`BUFFER_TOO_SHORT`].
-pub fn lower(ticket: &[u8], buffer: &mut [u8]) -> Result<usize, Refusal> {
-    sys::lower(ticket, buffer).map_err(|(number, line)| Refusal { number, line })
+/// ```
+/// use wesknuft_lower::Lowerer;
+///
+/// let mut lowerer = Lowerer::new();
+/// let mut buffer = [0; 256];
+/// for number in 0..3 {
+///     let ticket = format!("f,0,0\nt,bool\nt,pointer\nt,bits,8\nn,2,int,{number}\n");
+///     let length = lowerer.lower(ticket.as_bytes(), &mut buffer)?;
+///     let listing = format!("value,2,bytes,1,#{number}\ndone,0,0,0\n");
+///     assert_eq!(&buffer[..length], listing.as_bytes());
+/// }
+/// # Ok::<(), wesknuft_lower::Refusal>(())
+/// ```
+pub struct Lowerer {
+    room: Room,
 }
 
-/// Room to work in, lent to [`lower_in`] and used again from ticket to ticket.
-/// What it holds is of no account.
-pub struct Room {
-    pub rows: Box<[u64]>,
-    pub lists: Box<[u64]>,
-    pub stack: Box<[u64]>,
-    pub narrowed: Box<[u64]>,
-    pub code: Box<[u8]>,
-    pub store: Box<[u8]>,
-}
-
-impl Room {
-    /// Room for every ticket.
+impl Lowerer {
+    /// Makes the room, [`ROOM_SIZE`] bytes of the heap.
     pub fn new() -> Self {
-        Self {
-            rows: vec![0; 10_280].into(),
-            lists: vec![0; 32_768].into(),
-            stack: vec![0; 16_384].into(),
-            narrowed: vec![0; 256].into(),
-            code: vec![0; 65_536].into(),
-            store: vec![0; 32_768].into(),
+        Self { room: Room::new() }
+    }
+
+    /// Lowers a ticket. The listing is written to the front of `buffer`, and
+    /// the answer is its length.
+    ///
+    /// Bytes of `buffer` past the length keep their content; after a refusal
+    /// all of them do. A listing that does not fit is refused with
+    /// [`BUFFER_TOO_SHORT`].
+    pub fn lower(&mut self, ticket: &[u8], buffer: &mut [u8]) -> Result<usize, Refusal> {
+        match sys::lower_in(ticket, buffer, self.room.parts()) {
+            Answer::Accepted(length) => Ok(length),
+            Answer::Refused(number, line) => Err(Refusal { number, line }),
+            Answer::NoRoom => unreachable!("the room is enough for every ticket"),
+        }
+    }
+
+    /// Lowers a ticket to a listing of any length.
+    pub fn lower_to_vec(&mut self, ticket: &[u8]) -> Result<Vec<u8>, Refusal> {
+        let mut buffer = vec![0; 4_096];
+        loop {
+            match self.lower(ticket, &mut buffer) {
+                Ok(length) => {
+                    buffer.truncate(length);
+                    return Ok(buffer);
+                }
+                Err(refusal) if refusal.number == BUFFER_TOO_SHORT => {
+                    let longer = 4 * buffer.len();
+                    buffer = vec![0; longer];
+                }
+                Err(refusal) => return Err(refusal),
+            }
         }
     }
 }
 
-impl Default for Room {
+impl Default for Lowerer {
     fn default() -> Self {
         Self::new()
     }
 }
 
-/// [`lower`] in lent room, without large arrays on the stack. The answer is
-/// `None`, and the buffer as it was, where the room is too small for the
-/// ticket; that of [`Room::new`] never is.
-pub fn lower_in(
-    ticket: &[u8],
-    buffer: &mut [u8],
-    room: &mut Room,
-) -> Option<Result<usize, Refusal>> {
-    let answer = sys::lower_in(ticket, buffer, room)?;
-    Some(answer.map_err(|(number, line)| Refusal { number, line }))
+impl fmt::Debug for Lowerer {
+    fn fmt(&self, formatter: &mut fmt::Formatter<'_>) -> fmt::Result {
+        formatter.debug_struct("Lowerer").finish_non_exhaustive()
+    }
 }
 
-/// Lowers a ticket to a listing of any length.
+thread_local! {
+    /// Of the plain functions, made when a thread first calls one.
+    static OWN: RefCell<Lowerer> = RefCell::new(Lowerer::new());
+}
+
+fn with_own<T>(mut work: impl FnMut(&mut Lowerer) -> T) -> T {
+    OWN.try_with(|own| work(&mut own.borrow_mut()))
+        // A thread that ends has given its room back.
+        .unwrap_or_else(|_| work(&mut Lowerer::new()))
+}
+
+/// [`Lowerer::lower`] in a room that the thread keeps.
+pub fn lower(ticket: &[u8], buffer: &mut [u8]) -> Result<usize, Refusal> {
+    with_own(|own| own.lower(ticket, buffer))
+}
+
+/// [`Lowerer::lower_to_vec`] in a room that the thread keeps.
 ///
 /// ```
 /// let listing = wesknuft_lower::lower_to_vec(b"f,0,0\nt,bool\nt,pointer\nn,1,null\n")?;
@@ -172,18 +244,5 @@ pub fn lower_in(
 /// # Ok::<(), wesknuft_lower::Refusal>(())
 /// ```
 pub fn lower_to_vec(ticket: &[u8]) -> Result<Vec<u8>, Refusal> {
-    let mut buffer = vec![0; 4_096];
-    loop {
-        match lower(ticket, &mut buffer) {
-            Ok(length) => {
-                buffer.truncate(length);
-                return Ok(buffer);
-            }
-            Err(refusal) if refusal.number == BUFFER_TOO_SHORT => {
-                let longer = 4 * buffer.len();
-                buffer = vec![0; longer];
-            }
-            Err(refusal) => return Err(refusal),
-        }
-    }
+    with_own(|own| own.lower_to_vec(ticket))
 }

@@ -1,27 +1,18 @@
-//! The calls into the static library: their signatures stand here alone (and
-//! in include/wesknuft_lower.h for C).
+//! The call into the static library: its signature stands here alone (and in
+//! include/wesknuft_lower.h for C).
+
+use crate::room::Parts;
 
 extern "C" {
-    /// Answers whether the ticket was accepted: then `length` is the listing's
-    /// length, else `number` and `line` are the refusal's. What does not apply
-    /// is 0.
+    /// Answers 0 where the ticket is refused, as `number` and `line` say, 1
+    /// where it is accepted with a listing of `length` bytes, and 2 where one
+    /// of the six slices lent behind the buffer is too short. What does not
+    /// apply is 0.
     ///
-    /// The library reads `ticket_len` bytes at `ticket`, reads and writes at
-    /// most `buffer_len` bytes at `buffer`, writes the three numbers, keeps no
-    /// pointer and does not unwind. It follows neither of the first two
-    /// pointers where its length is 0.
-    fn wesknuft_lower(
-        ticket: *const u8,
-        ticket_len: usize,
-        buffer: *mut u8,
-        buffer_len: usize,
-        length: *mut usize,
-        number: *mut u64,
-        line: *mut u64,
-    ) -> bool;
-
-    /// The same, working in the six slices lent behind the buffer, whatever
-    /// they hold: 0 refused, 1 accepted, 2 where a slice is too short.
+    /// The library reads `ticket_len` bytes at `ticket`, reads and writes the
+    /// slices that are lent, whatever they hold, writes the three numbers,
+    /// keeps no pointer and does not unwind. It follows no pointer to a slice
+    /// of length 0.
     fn wesknuft_lower_in(
         ticket: *const u8,
         ticket_len: usize,
@@ -45,64 +36,48 @@ extern "C" {
     ) -> u64;
 }
 
-/// The listing's length, or the refusal's number and line.
-pub fn lower(ticket: &[u8], buffer: &mut [u8]) -> Result<usize, (u64, u64)> {
-    let (mut length, mut number, mut line) = (0, 0, 0);
-    // SAFETY: the first two pointers come from slices of the lengths passed,
-    // which stay lent for the call; a `&mut` slice overlaps no other. The
-    // other three point to numbers of this function's own.
-    let accepted = unsafe {
-        wesknuft_lower(
-            ticket.as_ptr(),
-            ticket.len(),
-            buffer.as_mut_ptr(),
-            buffer.len(),
-            &mut length,
-            &mut number,
-            &mut line,
-        )
-    };
-    if accepted {
-        Ok(length)
-    } else {
-        Err((number, line))
-    }
+/// What the library answers.
+#[derive(Debug, PartialEq, Eq)]
+pub enum Answer {
+    /// With the number and the line.
+    Refused(u64, u64),
+    /// With the listing's length.
+    Accepted(usize),
+    /// The parts lent are too short for the ticket.
+    NoRoom,
 }
 
-/// The same in lent words; `None` where they are too few.
-pub fn lower_in(
-    ticket: &[u8],
-    buffer: &mut [u8],
-    room: &mut crate::Room,
-) -> Option<Result<usize, (u64, u64)>> {
+pub fn lower_in(ticket: &[u8], buffer: &mut [u8], parts: Parts) -> Answer {
     let (mut length, mut number, mut line) = (0, 0, 0);
-    // SAFETY: as above; the room's slices are six of its own.
+    // SAFETY: the first eight pointers come from slices of the lengths passed,
+    // which stay lent for the call; a `&mut` slice overlaps no other. The other
+    // three point to numbers of this function's own.
     let answer = unsafe {
         wesknuft_lower_in(
             ticket.as_ptr(),
             ticket.len(),
             buffer.as_mut_ptr(),
             buffer.len(),
-            room.rows.as_mut_ptr(),
-            room.rows.len(),
-            room.lists.as_mut_ptr(),
-            room.lists.len(),
-            room.stack.as_mut_ptr(),
-            room.stack.len(),
-            room.narrowed.as_mut_ptr(),
-            room.narrowed.len(),
-            room.code.as_mut_ptr(),
-            room.code.len(),
-            room.store.as_mut_ptr(),
-            room.store.len(),
+            parts.rows.as_mut_ptr(),
+            parts.rows.len(),
+            parts.lists.as_mut_ptr(),
+            parts.lists.len(),
+            parts.stack.as_mut_ptr(),
+            parts.stack.len(),
+            parts.narrowed.as_mut_ptr(),
+            parts.narrowed.len(),
+            parts.code.as_mut_ptr(),
+            parts.code.len(),
+            parts.store.as_mut_ptr(),
+            parts.store.len(),
             &mut length,
             &mut number,
             &mut line,
         )
     };
     match answer {
-        0 => Some(Err((number, line))),
-        1 => Some(Ok(length)),
-        _ => None,
+        0 => Answer::Refused(number, line),
+        1 => Answer::Accepted(length),
+        _ => Answer::NoRoom,
     }
 }

@@ -1,4 +1,4 @@
-//! What the generators give, by the original's answers.
+//! What the generators of crate `tickets` give, by the original's answers.
 
 use original::{answer, Answer};
 use std::collections::BTreeMap;
@@ -88,10 +88,34 @@ fn accepted_at_limits() {
     }
 }
 
+/// All that is nested stands at its limit, and not past it.
 #[test]
-fn the_same_seed_gives_the_same_tickets() {
-    for kind in Kind::ALL {
-        let ticket = |seed| kind.ticket(&mut Rng::new(seed));
-        assert_eq!(ticket(3), ticket(3));
+fn worst_tickets_read() {
+    let mut tally: BTreeMap<u8, usize> = BTreeMap::new();
+    let (mut longest, mut past) = (0, Vec::new());
+    for (name, ticket) in tickets::worst() {
+        let number = match answer(ticket, usize::MAX) {
+            Answer::Accepted(listing) => {
+                longest = longest.max(listing.len());
+                0
+            }
+            Answer::Refused(refusal) => refusal.number,
+        };
+        let reads = number == 0 || number >= 20;
+        if !reads && !name.starts_with("text:") {
+            past.push(format!("{name}: {number}"));
+        }
+        *tally.entry(number).or_default() += 1;
+        if name.starts_with("64 ") {
+            let lines = ticket.split(|&byte| byte == b'\n');
+            let nodes = lines.filter(|line| line.starts_with(b"n,")).count();
+            let deeper = [&ticket[..], format!("n,0,unary,0,{}\n", nodes - 1).as_bytes()].concat();
+            let refused = answer(&deeper, usize::MAX);
+            let number = matches!(refused, Answer::Refused(refusal) if refusal.number == 9);
+            assert!(number, "{name}, deeper: {refused:?}");
+        }
     }
+    println!("worst: {tally:?}, the longest listing has {longest} bytes");
+    assert!(past.is_empty(), "{past:#?}");
+    assert!(longest > 100_000);
 }
