@@ -109,7 +109,11 @@ fn worst_tickets_read() {
         if name.starts_with("64 ") {
             let lines = ticket.split(|&byte| byte == b'\n');
             let nodes = lines.filter(|line| line.starts_with(b"n,")).count();
-            let deeper = [&ticket[..], format!("n,0,unary,0,{}\n", nodes - 1).as_bytes()].concat();
+            let deeper = [
+                &ticket[..],
+                format!("n,0,unary,0,{}\n", nodes - 1).as_bytes(),
+            ]
+            .concat();
             let refused = answer(&deeper, usize::MAX);
             let number = matches!(refused, Answer::Refused(refusal) if refusal.number == 9);
             assert!(number, "{name}, deeper: {refused:?}");

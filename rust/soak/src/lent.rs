@@ -1,6 +1,6 @@
 //! A buffer between guard bytes.
 
-use wesknuft_lower::{lower, Refusal};
+use wesknuft_lower::{Lowerer, Refusal};
 
 /// Bytes on either side of the buffer, and the largest buffer.
 const GUARD: usize = 4_096;
@@ -10,6 +10,7 @@ pub type Outcome = Result<usize, Refusal>;
 
 /// A buffer between guards, with what it held before.
 pub struct Lent {
+    lowerer: Lowerer,
     before: Vec<u8>,
     after: Vec<u8>,
 }
@@ -18,6 +19,7 @@ impl Lent {
     pub fn new() -> Self {
         let before = vec![0; ROOM + 2 * GUARD];
         Self {
+            lowerer: Lowerer::new(),
             after: before.clone(),
             before,
         }
@@ -31,7 +33,8 @@ impl Lent {
             *byte = fill ^ (at as u8).wrapping_mul(31);
         }
         self.after[..all].copy_from_slice(&self.before[..all]);
-        let answer = lower(ticket, &mut self.after[GUARD..GUARD + room]);
+        let buffer = &mut self.after[GUARD..GUARD + room];
+        let answer = self.lowerer.lower(ticket, buffer);
         let written = match answer {
             Ok(length) if length > room => return Err(format!("length {length} in room {room}")),
             Ok(length) => length,

@@ -3,8 +3,12 @@
 //!
 //! `soak [--seconds N] [--seed N] [--valgrind]`; under valgrind, whose own memory
 //! is most of the process's, memory is printed and not judged.
+//!
+//! `soak --stack [--count N] [--seed N]`: no long run, but the worst tickets and
+//! as many random ones in a thread of just the stack that is stated.
 
 mod lent;
+mod stack;
 
 use lent::{Lent, ROOM};
 use std::{
@@ -132,10 +136,17 @@ impl Memory {
     }
 }
 
+const USAGE: &str = "\
+soak [--seconds N] [--seed N] [--valgrind]
+soak --stack [--count N] [--seed N]";
+
 struct Options {
     seconds: u64,
     seed: u64,
     valgrind: bool,
+    stack: bool,
+    /// Random tickets of `--stack`.
+    count: usize,
 }
 
 fn read_options() -> Result<Options, String> {
@@ -143,6 +154,8 @@ fn read_options() -> Result<Options, String> {
         seconds: 60,
         seed: 1,
         valgrind: false,
+        stack: false,
+        count: 100_000,
     };
     let mut words = Words::of_program();
     while let Some(word) = words.option() {
@@ -150,7 +163,9 @@ fn read_options() -> Result<Options, String> {
             "--seconds" => options.seconds = words.number()?,
             "--seed" => options.seed = words.number()?,
             "--valgrind" => options.valgrind = true,
-            _ => return Err("soak [--seconds N] [--seed N] [--valgrind]".into()),
+            "--stack" => options.stack = true,
+            "--count" => options.count = words.number()?,
+            _ => return Err(USAGE.into()),
         }
     }
     Ok(options)
@@ -159,6 +174,13 @@ fn read_options() -> Result<Options, String> {
 /// Whether all went well.
 fn run() -> Result<bool, String> {
     let options = read_options()?;
+    match options.stack {
+        true => stack::run(options.seed, options.count),
+        false => run_long(&options),
+    }
+}
+
+fn run_long(options: &Options) -> Result<bool, String> {
     let whole = Duration::from_secs(options.seconds);
     let warm = (whole / 10).min(Duration::from_secs(60));
     let step = (whole / 20).max(Duration::from_secs(1));

@@ -76,7 +76,7 @@ fn chain(depth: usize) -> Vec<u8> {
     text.into_bytes()
 }
 
-/// Small ones, refused ones, those at the limits, and rows of growing ones.
+/// Small ones, refused ones, and those at the limits.
 pub fn groups(seed: u64) -> Vec<Group> {
     let drawn = [
         ("single operations", Kind::SingleAny, 1_000, true),
@@ -96,15 +96,44 @@ pub fn groups(seed: u64) -> Vec<Group> {
         groups.push(Group::new(&name, vec![ticket]));
     }
     groups.push(Group::new("256 types", vec![types(256)]));
-    let mut growth = |what: &str, sizes: &[usize], ticket: fn(usize) -> Vec<u8>| {
-        for &size in sizes {
-            let name = format!("growth: {what} {size}");
-            groups.push(Group::new(&name, vec![ticket(size)]));
-        }
-    };
-    growth("terms of a sum,", &[1, 2, 4, 8, 16, 32, 64, 128], sum);
-    growth("depth", &[1, 2, 4, 8, 16, 32, 64], chain);
-    growth("types,", &[4, 16, 64, 256], types);
-    growth("bytes of text,", &[1_024, 4_096, 16_384, 65_536], padded);
+    let worst = tickets::worst().iter().map(|(_, ticket)| ticket.clone());
+    groups.push(Group::new("the worst tickets", worst.collect()));
     groups
 }
+
+/// So many tickets of every kind.
+pub fn random(seed: u64, count: usize) -> Group {
+    let mut rng = Rng::new(seed);
+    let tickets = (0..count).map(|_| rng.pick(&Kind::ALL).ticket(&mut rng));
+    Group::new("tickets of every kind", tickets.collect())
+}
+
+/// Tickets of a growing size.
+pub struct Growth {
+    pub what: &'static str,
+    pub sizes: &'static [usize],
+    pub ticket: fn(usize) -> Vec<u8>,
+}
+
+pub const GROWTHS: [Growth; 4] = [
+    Growth {
+        what: "terms of a sum",
+        sizes: &[1, 2, 4, 8, 16, 32, 64, 128],
+        ticket: sum,
+    },
+    Growth {
+        what: "depth",
+        sizes: &[1, 2, 4, 8, 16, 32, 64],
+        ticket: chain,
+    },
+    Growth {
+        what: "types",
+        sizes: &[4, 16, 64, 256],
+        ticket: types,
+    },
+    Growth {
+        what: "bytes of text",
+        sizes: &[1_024, 4_096, 16_384, 65_536],
+        ticket: padded,
+    },
+];

@@ -1,7 +1,7 @@
 //! Times the proved lowering and the original side by side, in one run and on
 //! the same tickets. Each time is the median of several rounds, in which the
-//! two take turns, and is the thread's time on a processor, so that other work
-//! on the machine counts little.
+//! sides take turns, and is the thread's time on a processor, so that other work
+//! on the machine counts little. The tables are printed as README.md has them.
 //!
 //! `speed [--rounds N] [--seed N] [--quick] [--stack]`; with `--stack` it finds
 //! the least stack of a thread in which ours answers each group, and no more.
@@ -11,10 +11,14 @@ mod groups;
 mod stack;
 
 use clock::processor_time;
-use groups::{groups, Group, ROOM};
+use groups::{groups, random, Group, Growth, GROWTHS, ROOM};
 use original::{ticket, Prepared};
 use std::{hint::black_box, time::Duration};
 use tickets::Words;
+use wesknuft_lower::Lowerer;
+
+/// Random tickets whose stack is measured.
+const RANDOM: usize = 100_000;
 
 struct Options {
     rounds: usize,
@@ -30,7 +34,11 @@ struct Options {
 
 /// Times of one ticket, in nanoseconds.
 struct Times {
+    /// One `Lowerer`, used again.
     ours: f64,
+    /// The plain function, in the thread's room.
+    plain: f64,
+    /// With the reader and the printer written for it here.
     original: f64,
     /// `lower_expression` alone, without reading and printing, over those
     /// tickets of the group that it lowers.
@@ -50,9 +58,16 @@ impl Times {
             .filter(Prepared::lowers)
             .collect();
 
+        let mut lowerer = Lowerer::new();
+        let mut second = vec![0; buffer.len()];
         let mut ours = || {
             for ticket in &group.tickets {
-                let _ = black_box(wesknuft_lower::lower(black_box(ticket), buffer));
+                let _ = black_box(lowerer.lower(black_box(ticket), buffer));
+            }
+        };
+        let mut plain = || {
+            for ticket in &group.tickets {
+                let _ = black_box(wesknuft_lower::lower(black_box(ticket), &mut second));
             }
         };
         let mut original = || {
@@ -65,24 +80,28 @@ impl Times {
                 black_box(black_box(prepared).lowers());
             }
         };
-        let turns = |side: &mut dyn FnMut()| turns(side, options.turn);
-        let (n_ours, n_original) = (turns(&mut ours), turns(&mut original));
-        let n_lowering = turns(&mut lowering);
-
-        let mut rounds: [Vec<f64>; 3] = Default::default();
-        for _ in 0..options.rounds {
-            rounds[0].push(timed(&mut ours, n_ours));
-            rounds[1].push(timed(&mut original, n_original));
-            rounds[2].push(timed(&mut lowering, n_lowering));
-        }
-        let [ours, original, lowering] = rounds.map(median);
+        let sides: [&mut dyn FnMut(); 4] = [&mut ours, &mut plain, &mut original, &mut lowering];
+        let [ours, plain, original, lowering] = medians(sides, options);
         let count = group.tickets.len() as f64;
         Self {
             ours: ours / count,
+            plain: plain / count,
             original: original / count,
             lowering: (!prepared.is_empty()).then(|| lowering / prepared.len() as f64),
         }
     }
+}
+
+/// Nanoseconds of one run of each side, which take turns.
+fn medians<const N: usize>(mut sides: [&mut dyn FnMut(); N], options: &Options) -> [f64; N] {
+    let turns = sides.each_mut().map(|side| turns(side, options.turn));
+    let mut rounds = [const { Vec::new() }; N];
+    for _ in 0..options.rounds {
+        for (index, side) in sides.iter_mut().enumerate() {
+            rounds[index].push(timed(side, turns[index]));
+        }
+    }
+    rounds.map(median)
 }
 
 /// How often a side has to run to fill its turn.
@@ -113,18 +132,34 @@ fn micro(nanoseconds: f64) -> String {
     format!("{:.2}", nanoseconds / 1_000.0)
 }
 
-fn print(group: &Group, times: &Times) {
+fn print(group: &Group, times: &Times, stack: usize) {
     println!(
-        "{:34} {:7} {:9.0} {:>10} {:>10} {:>7.2} {:>10} {:>10.1}",
+        "| {} | {} | {:.0} | {} | {} | {} | {:.2} | {} | {} |",
         group.name,
         group.tickets.len(),
         group.bytes(),
         micro(times.ours),
+        micro(times.plain),
         micro(times.original),
         times.ours / times.original,
         times.lowering.map_or("-".into(), micro),
-        times.ours / group.bytes(),
+        stack / 1_024,
     );
+}
+
+/// How the time of ours grows with a ticket's size.
+fn print_growth(growth: &Growth, options: &Options, buffer: &mut [u8]) {
+    let mut lowerer = Lowerer::new();
+    let times = growth.sizes.iter().map(|&size| {
+        let ticket = (growth.ticket)(size);
+        let mut ours = || {
+            let _ = black_box(lowerer.lower(black_box(&ticket), buffer));
+        };
+        let [ours] = medians([&mut ours], options);
+        format!("{size}: {}", micro(ours))
+    });
+    let times: Vec<String> = times.collect();
+    println!("| {} | {} |", growth.what, times.join(", "));
 }
 
 fn read_options() -> Result<Options, String> {
@@ -149,30 +184,35 @@ fn read_options() -> Result<Options, String> {
     Ok(options)
 }
 
-fn time_all(options: &Options) {
+fn print_all(options: &Options) -> Result<(), String> {
     println!(
-        "Microseconds a ticket, medians of {} rounds. 'lowering' is lower_expression alone;",
-        options.rounds
+        "| Group | Tickets | Bytes each | Ours, µs | Ours by the plain function, µs \
+         | Original, µs | Ratio | Original's lower_expression alone, µs | Stack, KiB |"
     );
-    println!("'original' has the reader and the printer written for it here.\n");
-    println!(
-        "{:34} {:>7} {:>9} {:>10} {:>10} {:>7} {:>10} {:>10}",
-        "tickets", "count", "bytes", "ours", "original", "ratio", "lowering", "ns a byte"
-    );
+    println!("|---|---|---|---|---|---|---|---|---|");
     let mut buffer = vec![0; ROOM];
     for group in &groups(options.seed) {
-        print(group, &Times::of(group, options, &mut buffer));
+        let times = Times::of(group, options, &mut buffer);
+        print(group, &times, stack::least(group)?);
     }
+    println!("\n| Growth of | size: µs of ours |\n|---|---|");
+    for growth in &GROWTHS {
+        print_growth(growth, options, &mut buffer);
+    }
+    Ok(())
+}
+
+fn print_stacks(options: &Options) -> Result<(), String> {
+    let mut all = groups(options.seed);
+    all.push(random(options.seed, RANDOM));
+    stack::print_least(&all)
 }
 
 fn main() -> Result<(), String> {
     let options = read_options()?;
     match options.within {
         Some(size) => stack::answer_within(size),
-        None if options.stack => stack::print_least(&groups(options.seed)),
-        None => {
-            time_all(&options);
-            Ok(())
-        }
+        None if options.stack => print_stacks(&options),
+        None => print_all(&options),
     }
 }

@@ -1,5 +1,6 @@
-//! The least stack of a thread in which ours answers. A thread that needs more
-//! ends its process, so each size is tried in a process of its own.
+//! The least stack of a thread in which ours answers, a room made there and the
+//! thread's own start included. A thread that needs more ends its process, so
+//! each size is tried in a process of its own.
 
 use crate::groups::{Group, ROOM};
 use std::{
@@ -8,7 +9,7 @@ use std::{
     process::{Command, Stdio},
     thread,
 };
-use wesknuft_lower::lower;
+use wesknuft_lower::{Lowerer, STACK};
 
 /// Sizes are told apart by so many bytes.
 const STEP: usize = 4_096;
@@ -22,10 +23,11 @@ pub fn answer_within(size: usize) -> Result<(), String> {
     read.map_err(|error| format!("standard input: {error}"))?;
     let mut buffer = vec![0; ROOM];
     let work = move || {
+        let mut lowerer = Lowerer::new();
         let mut rest = text.as_slice();
         while let Some((length, behind)) = rest.split_first_chunk() {
             let (ticket, behind) = behind.split_at(u64::from_le_bytes(*length) as usize);
-            let _ = lower(ticket, &mut buffer);
+            let _ = lowerer.lower(ticket, &mut buffer);
             rest = behind;
         }
     };
@@ -56,12 +58,13 @@ fn fits(text: &[u8], size: usize) -> io::Result<bool> {
     Ok(child.wait()?.success())
 }
 
-fn least(group: &Group) -> io::Result<usize> {
+/// In bytes.
+pub fn least(group: &Group) -> Result<usize, String> {
     let text = packed(group);
     let (mut low, mut high) = SIZES;
     while low < high {
         let middle = (low + high) / 2;
-        match fits(&text, middle * STEP)? {
+        match fits(&text, middle * STEP).map_err(|error| error.to_string())? {
             true => high = middle,
             false => low = middle + 1,
         }
@@ -70,10 +73,11 @@ fn least(group: &Group) -> io::Result<usize> {
 }
 
 pub fn print_least(groups: &[Group]) -> Result<(), String> {
-    println!("KiB of stack, the least of a thread that answers every ticket of a group\n");
+    println!("| Group | Tickets | Stack, KiB |\n|---|---|---|");
     for group in groups {
-        let size = least(group).map_err(|error| error.to_string())?;
-        println!("{:34} {:7}", group.name, size / 1_024);
+        let (name, count) = (&group.name, group.tickets.len());
+        println!("| {name} | {count} | {} |", least(group)? / 1_024);
     }
+    println!("\nThe stack that is stated: {} KiB.", STACK / 1_024);
     Ok(())
 }

@@ -3,7 +3,7 @@
 use std::sync::OnceLock;
 
 /// The lines before those of a ticket here.
-const HEAD: &str = "f,0,0\nt,bool\nt,pointer\n";
+pub const HEAD: &str = "f,0,0\nt,bool\nt,pointer\n";
 
 /// A name that says which limit, and the ticket.
 pub type Named = (String, Vec<u8>);

@@ -72,7 +72,14 @@ fn the_example() {
         let built = compiler
             .args(["-O2", "-x", language])
             .arg(&example)
-            .args(["-x", "none", "-L", env!("LIBRARY_FOLDER"), "-lwesknuft", "-o"])
+            .args([
+                "-x",
+                "none",
+                "-L",
+                env!("LIBRARY_FOLDER"),
+                "-lwesknuft",
+                "-o",
+            ])
             .arg(&program)
             .status()
             .unwrap();
