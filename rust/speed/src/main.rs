@@ -147,6 +147,14 @@ fn print(group: &Group, times: &Times, stack: usize) {
     );
 }
 
+/// With a comma before the last three digits.
+fn grouped(number: usize) -> String {
+    match number / 1_000 {
+        0 => number.to_string(),
+        thousands => format!("{thousands},{:03}", number % 1_000),
+    }
+}
+
 /// How the time of ours grows with a ticket's size.
 fn print_growth(growth: &Growth, options: &Options, buffer: &mut [u8]) {
     let mut lowerer = Lowerer::new();
@@ -156,7 +164,7 @@ fn print_growth(growth: &Growth, options: &Options, buffer: &mut [u8]) {
             let _ = black_box(lowerer.lower(black_box(&ticket), buffer));
         };
         let [ours] = medians([&mut ours], options);
-        format!("{size}: {}", micro(ours))
+        format!("{}: {}", grouped(size), micro(ours))
     });
     let times: Vec<String> = times.collect();
     println!("| {} | {} |", growth.what, times.join(", "));
