@@ -15,8 +15,7 @@ extern "C" {
 #endif
 
 /* Lengths of the lent areas, in their own elements, that are enough for every
- * ticket; with those of code and store any listing of 65536 bytes is made in
- * one run. */
+ * ticket. Those of code and store are only for speed. */
 #define WESKNUFT_ROWS_LEN 10280
 #define WESKNUFT_LISTS_LEN 32768
 #define WESKNUFT_STACK_LEN 16384
