@@ -26,7 +26,7 @@ extern "C" {
 /* The stack, in bytes, of a thread in which every ticket at all is answered,
  * the thread's own start included. It is measured (rust/README.md), not
  * proved. */
-#define WESKNUFT_THREAD_STACK 131072
+#define WESKNUFT_THREAD_STACK 1048576
 
 /* Room to work in. A caller has one for each thread that lowers (static or on
  * the heap, as it is large) and uses it again from ticket to ticket; what it

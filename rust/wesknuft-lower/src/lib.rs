@@ -85,7 +85,7 @@ pub const ROOM_SIZE: usize = room::SIZE;
 /// assert!(thread.join().unwrap().is_ok());
 /// # Ok::<(), std::io::Error>(())
 /// ```
-pub const STACK: usize = 131_072;
+pub const STACK: usize = 1_048_576;
 
 /// The number of the refusal of a buffer that is too short.
 pub const BUFFER_TOO_SHORT: u64 = 28;

@@ -117,6 +117,10 @@ pub fn selects(all: &mut Vec<Named>) {
         let name = format!("a select between parts and bytes, swapped: {swapped}");
         all.push((name, between_parts_and_bytes(swapped)));
     }
+    for (form, others) in [("aggregate", 0), ("offset", 1), ("select", 2)] {
+        let name = format!("64 nodes, a wide select in 61 of {form}");
+        all.push((name, inmost_select(form, others)));
+    }
     for (operand, index) in [("true", 0), ("false", 1), ("condition", 2)] {
         all.push((
             format!("64 selects of reads by {operand}"),
@@ -154,6 +158,30 @@ fn between_parts_and_bytes(swapped: bool) -> Vec<u8> {
         false => (parts, bytes),
     };
     draft.node(ty, &format!("select,{yes},{no},{bit}"));
+    draft.text()
+}
+
+/// A select as wide as it can be in nodes of type Unit, each with other operands
+/// that count as none.
+fn inmost_select(form: &str, others: usize) -> Vec<u8> {
+    let around = DEPTH - 3;
+    // Its own nodes and its condition have a weight of 4.
+    let count = (SUM - around * (1 + others) - 4) / 3;
+    let mut draft = Draft::new();
+    let byte = draft.ty("bits,8");
+    let unit = draft.ty("unit");
+    let ty = draft.ty(&format!("array,{byte},{count}"));
+    draft.variables(&[ty]);
+    let (yes, no) = (draft.read(0, ty), draft.read(0, ty));
+    let bit = draft.node(unit, "bool,1");
+    let mut node = draft.node(ty, &format!("select,{yes},{no},{bit}"));
+    for _ in 0..around {
+        let mut rest = format!("{form},{node}");
+        for _ in 0..others {
+            rest += &format!(",{}", draft.node(unit, "null"));
+        }
+        node = draft.node(unit, &rest);
+    }
     draft.text()
 }
 
