@@ -18,7 +18,7 @@ use Rattle.spec.specs.Monad as monad
 use Rattle.spec.specs.Allocation.{type-size, allocate-temporary, bytes-from, bytes-at, location-value-storages}
 use Rattle.spec.specs.ReadBytes.{read-location}
 use Rattle.spec.specs.Select.{select-piece, select-pieces}
-use Rattle.text.specs.Put.{last}
+use Rattle.text.specs.Put.{last, sat}
 use Rattle.lir.specs.declared.Bytes.{Bytes}
 use Rattle.lir.specs.Abstract.{tab, byte-at, bytes-of, Small}
 use Rattle.lir.specs.PutFields.{spot, length-tab}
@@ -26,8 +26,8 @@ use Rattle.emission.specs.declared.Counters.{Counters}
 use Rattle.emission.specs.declared.Allocated.{Allocated}
 use Rattle.emission.specs.declared.Emitted.{Emitted}
 use Rattle.emission.specs.declared.Temporary.{Temporary}
-use Rattle.emission.specs.Appends.{texts, counters-of, append-none, room-less}
-use Rattle.emission.specs.Emits.{Emits, room-allocated}
+use Rattle.emission.specs.Appends.{texts, counters-of, Room, append-none, room-less}
+use Rattle.emission.specs.Emits.{Emits, emits-length, room-emitted, room-allocated}
 use Rattle.emission.specs.Does.{Does, Refuses, MeetsCode, meets-by, out, does-next, does-more, does-emits, does-allocate, room-done}
 use Rattle.emission.specs.Forms.{prepend-nothing}
 use Rattle.emission.specs.Temporaries.{location, MeetsTemporary, temporary-placed, temporary-refused}
@@ -200,6 +200,56 @@ module _ {stack : List ℕ} {middle end : ℕ} {t f : Cursor} (q : BitOperand) (
     pieces-more b v =
         let k = step-more in
         code-same (omega arith) (λ a d. rw (tab-first g i n h) (k .is (tab g (i + 1) (n - 1)) a d)) (code-more b (k .emits) v)
+
+-- of the n pieces from i on, the m from j on are left: what these leave, the whole leaves
+pub record Rest (stack : List ℕ) (middle end : ℕ) (q : BitOperand) (g : ℕ → ValueStorage) (i n : ℕ) (l : List ℕ) (c : Counters) (t f : Cursor)
+    (j m : ℕ) (l1 : List ℕ) (c1 : Counters) (t1 f1 : Cursor) : Type 0 where
+  pub first : Ready stack middle t1
+  pub second : Ready stack end f1
+  pub room : Room m c1
+  pub few : j + m ≤ 4294967296
+  pub fits : length l1 ≤ last
+  pub at : c1 .at ≤ last
+  pub stored : c1 .stored ≤ last
+  pub long : length l1 ≡ length l
+  pub whole : {l2 : List ℕ} {x : Emitted} → MeetsCode m l1 c1 (pieces stack middle end q (tab g j m) t1 f1) l2 x → MeetsCode n l c (pieces stack middle end q (tab g i n) t f) l2 x
+
+module _ {stack : List ℕ} {middle end : ℕ} {q : BitOperand} {g : ℕ → ValueStorage} {i n : ℕ} {l : List ℕ} {c : Counters} {t f : Cursor} where
+  -- before the first piece
+  pub rest-all : Ready stack middle t → Ready stack end f → Room n c → i + n ≤ 4294967296 → length l ≤ last → c .at ≤ last → c .stored ≤ last → Rest stack middle end q g i n l c t f i n l c t f
+  rest-all a b o w x y z = record { first = a; second = b; room = o; few = w; fits = x; at = y; stored = z; long = refl; whole = λ v. v }
+
+  module _ {j m : ℕ} {l1 : List ℕ} {c1 : Counters} {t1 f1 : Cursor} (k : Rest stack middle end q g i n l c t f j m l1 c1 t1 f1) where
+    -- behind the last piece
+    pub rest-none : m ≡ 0 → MeetsCode n l c (pieces stack middle end q (tab g i n) t f) l1 (Emitted.Done c1)
+    rest-none e = k .whole (pieces-none q g j m _ _ e (k .fits) (k .at) (k .stored))
+
+    module _ (h : m ≡ 0 → ⊥) {l2 : List ℕ} {r : Step} (w : MeetsStep stack middle end q (g j) t1 f1 l1 c1 l2 r) where
+      -- a side is over
+      pub rest-over : r ≡ Step.Over → MeetsCode n l c (pieces stack middle end q (tab g i n) t f) l2 (Emitted.Done c1)
+      rest-over e = k .whole (pieces-over q g j m h w e (k .fits) (k .at) (k .stored))
+
+      -- a piece that is refused
+      pub rest-refused : {x : ℕ} {l3 : List ℕ} → r ≡ Step.Refused x → MeetsCode n l c (pieces stack middle end q (tab g i n) t f) l3 (Emitted.Refused x)
+      rest-refused e = k .whole (pieces-refused q g j m h w e)
+
+      -- a piece, and both cursors behind an operand
+      pub rest-more : {c2 : Counters} {t2 f2 : Cursor} → r ≡ Step.More c2 t2 f2 → Rest stack middle end q g i n l c t f (j + 1) (m - 1) l2 c2 t2 f2
+      unfolding sat
+      rest-more e =
+          let a = step-more q g j m h w e in
+          let y = emits-length (a .emits) in
+          record {
+            first = a .first;
+            second = a .second;
+            room = room-emitted _ (omega (arith, h)) (k .room) (a .emits);
+            few = omega (arith, k .few, h);
+            fits = omega (arith, y, k .fits);
+            at = omega (arith, a .emits .coded .next);
+            stored = omega (arith, a .emits .stored, k .stored);
+            long = y ∙ k .long;
+            whole = λ v. k .whole (pieces-more q g j m h w e (k .stored) v);
+          }
 
 -- ---------------------------------------------------------------- bytes alone
 

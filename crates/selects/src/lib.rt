@@ -129,14 +129,30 @@ fn select_pieces(stack: &[u64], code: &mut [u8], c: Counters, to: StorageId, bit
     requires { ⌜ (Ready (now stack) middle t) × (Ready (now stack) end f) × (Room n c) × (i + n ≤ 4294967296) ⌝ }
     ensures { λ r. ⌜ MeetsCode n (now (code .entry)) c (pieces (now (stack .entry)) middle end (bit-operand-of q) (tab (target (to .0) bit) i n) t f) (now (code .exit)) r ⌝ }
 {
-    if n == 0 {
-        return Emitted::Done(c);
+    // m destinations are left, from j on.
+    let mut counters = c;
+    let mut left = t;
+    let mut right = f;
+    let mut j = i;
+    let mut m = n;
+    while m != 0 {
+        match select_next(stack, code, counters, to, bit, j, q, left, right, middle, end) {
+            Step::Over => {
+                return Emitted::Done(counters);
+            }
+            Step::Refused(k) => {
+                return Emitted::Refused(k);
+            }
+            Step::More(c1, t1, f1) => {
+                counters = c1;
+                left = t1;
+                right = f1;
+                j += 1;
+                m -= 1;
+            }
+        }
     }
-    match select_next(stack, code, c, to, bit, i, q, t, f, middle, end) {
-        Step::Over => Emitted::Done(c),
-        Step::Refused(k) => Emitted::Refused(k),
-        Step::More(c1, t1, f1) => select_pieces(stack, code, c1, to, bit, i + 1, n - 1, q, t1, f1, middle, end),
-    }
+    Emitted::Done(counters)
 }
 
 // ---------------------------------------------------------------- bytes alone
