@@ -1,13 +1,13 @@
 #!/usr/bin/env python3
-"""Writes the tables of the crate wasm_tests.
+"""Writes the tables that the program wasm_tests runs.
 
     tools/wasm_vectors.py FOLDER [OUT]
 
 FOLDER has i32.wast, i64.wast and conversions.wast of the WebAssembly specification's test suite, as shipped in Debian's source package
-binaryen 108-1 (test/spec/). OUT is the crate's folder (default: crates/wasm_tests beside this script's folder). Written are src/ops.rt,
-src/table_*.rt, and stdout, what the program must print.
+binaryen 108-1 (test/spec/). OUT is the crate's folder (default: crates/wasm_tests beside this script's folder). Written are src/ops.rt;
+stdin, the tables; and stdout, what the program must print.
 
-A case is five numbers: the operation, its three arguments in the order of the crate numerics (a width and two operands, the second 0 for a
+A table is a line with its name, one with how many cases it has, and a line for each. A case is five numbers: the operation, its three arguments in the order of the crate numerics (a width and two operands, the second 0 for a
 unary operation; two widths and an operand for a conversion), and the result. An operation _TRAPS answers 1 where the result is undefined.
 
 Every assert_return and assert_trap of the first two files is carried over, and those of wrap and extend of the third. The other cases are
@@ -294,13 +294,9 @@ def outside():
 MADE = "// Made by tools/wasm_vectors.py; not edited by hand."
 
 
-def table(about, rows):
-    """A table in the layout of the formatter: a number to a line."""
-    lines = [MADE] + ["// " + line for line in about] + ["// A case is five numbers: the operation, its three arguments, the result."]
-    lines += ["use super::ops;", "", f"pub const ROWS: [u64; {5 * len(rows)}] = ["]
-    for op, *numbers in rows:
-        lines += [f"    ops::{op.upper()},"] + [f"    {x:#x}," for x in numbers]
-    return "\n".join(lines + ["];", ""])
+def table(name, rows):
+    lines = [name, str(len(rows))] + [",".join(map(str, (CODES[op], *numbers))) for op, *numbers in rows]
+    return "".join(line + "\n" for line in lines)
 
 
 def main():
@@ -308,25 +304,22 @@ def main():
     here = os.path.dirname(os.path.dirname(os.path.abspath(__file__)))
     out = sys.argv[2] if len(sys.argv) > 2 else os.path.join(here, "crates", "wasm_tests")
     wast = lambda name, names: published(os.path.join(folder, name), names)
-    suite = "of the WebAssembly specification's test suite, as shipped in Debian's source package binaryen 108-1 (test/spec/)"
     tables = [
-        ("i32", "i32.wast", wast("i32.wast", operations_at(32)), [f"Every assert_return and assert_trap of i32.wast {suite}."]),
-        ("i64", "i64.wast", wast("i64.wast", operations_at(64)), [f"Every assert_return and assert_trap of i64.wast {suite}."]),
-        ("conversions", "conversions.wast", wast("conversions.wast", conversions), [f"The assert_return of wrap and extend of conversions.wast {suite}."]),
+        ("i32.wast", wast("i32.wast", operations_at(32))),
+        ("i64.wast", wast("i64.wast", operations_at(64))),
+        ("conversions.wast", wast("conversions.wast", conversions)),
     ]
-    for n in WIDTHS:
-        tables.append((f"width_{n}", f"width {n}", at_width(n), [f"Worked examples at width {n}, computed by the script on lists of bits and integers with a sign."]))
-    tables.append(("outside", "widths outside 1 to 64", outside(), ["Widths outside 1 to 64, or in the wrong order: the answers that the crate numerics states."]))
+    tables += [(f"width {n}", at_width(n)) for n in WIDTHS]
+    tables.append(("widths outside 1 to 64", outside()))
     with open(os.path.join(out, "src", "ops.rt"), "w") as f:
-        f.write(MADE + "\n// The operations of the tables; each group of main.rt starts at a multiple of 16.\n")
-        f.write("\n".join(f"pub const {name.upper()}: u64 = {code};\n" for name, code in CODES.items()))
-    for name, _, rows, about in tables:
-        with open(os.path.join(out, "src", f"table_{name}.rt"), "w") as f:
-            f.write(table(about, rows))
+        f.write(MADE + "\n// The operations of each group of answers.rt; a case names group g's operation k by 16 * g + k.\n")
+        f.write("\n".join(f"pub const {name.upper()}: u64 = {code % 16};\n" for name, code in CODES.items()))
+    with open(os.path.join(out, "stdin"), "w") as f:
+        f.writelines(table(name, rows) for name, rows in tables)
     with open(os.path.join(out, "stdout"), "w") as f:
-        f.writelines(f"{source}: {len(rows)} cases, 0 failed\n" for _, source, rows, _ in tables)
-    for _, source, rows, _ in tables:
-        print(f"{source}: {len(rows)} cases")
+        f.writelines(f"{name}: {len(rows)} cases, 0 failed\n" for name, rows in tables)
+    for name, rows in tables:
+        print(f"{name}: {len(rows)} cases")
 
 
 main()

@@ -1,9 +1,13 @@
 // The operation that a case names, computed by the proved function of that name.
+ghost use mathlib.Core.Path.{_≡_};
+ghost use Rattle.wasm_tests.specs.Answers.{arithmetic-of, traps, quotient-of, bits-of, comparison-of, conversion-of, answer-of};
 use super::ops;
 use numerics::Quotient;
 
 // Sums, differences and products.
-fn arithmetic(op: u64, n: u64, a: u64, b: u64) -> u64 {
+fn arithmetic(op: u64, n: u64, a: u64, b: u64) -> u64
+    ensures { λ r. ⌜ r ≡ arithmetic-of op n a b ⌝ }
+{
     match op {
         ops::IADD => numerics::iadd(n, a, b),
         ops::ISUB => numerics::isub(n, a, b),
@@ -18,7 +22,9 @@ fn arithmetic(op: u64, n: u64, a: u64, b: u64) -> u64 {
 }
 
 // Quotients and remainders; an operation _TRAPS answers 1 where there is none.
-fn quotient(op: u64, n: u64, a: u64, b: u64) -> Quotient {
+fn quotient(op: u64, n: u64, a: u64, b: u64) -> Quotient
+    ensures { λ r. ⌜ r ≡ quotient-of op n a b ⌝ }
+{
     match op {
         ops::IDIV_U => numerics::idiv_u(n, a, b),
         ops::IDIV_S => numerics::idiv_s(n, a, b),
@@ -32,7 +38,9 @@ fn quotient(op: u64, n: u64, a: u64, b: u64) -> Quotient {
     }
 }
 
-fn undefined(q: Quotient) -> Quotient {
+fn undefined(q: Quotient) -> Quotient
+    ensures { λ r. ⌜ r ≡ traps q ⌝ }
+{
     match q {
         Quotient::Number(_) => Quotient::Number(0),
         Quotient::Undefined => Quotient::Number(1),
@@ -40,7 +48,9 @@ fn undefined(q: Quotient) -> Quotient {
 }
 
 // Logic, shifts and counts.
-fn bits(op: u64, n: u64, a: u64, b: u64) -> u64 {
+fn bits(op: u64, n: u64, a: u64, b: u64) -> u64
+    ensures { λ r. ⌜ r ≡ bits-of op n a b ⌝ }
+{
     match op {
         ops::INOT => numerics::inot(n, a),
         ops::IAND => numerics::iand(n, a, b),
@@ -59,7 +69,9 @@ fn bits(op: u64, n: u64, a: u64, b: u64) -> u64 {
 }
 
 // Tests and comparisons.
-fn comparison(op: u64, n: u64, a: u64, b: u64) -> u64 {
+fn comparison(op: u64, n: u64, a: u64, b: u64) -> u64
+    ensures { λ r. ⌜ r ≡ comparison-of op n a b ⌝ }
+{
     match op {
         ops::IEQZ => numerics::ieqz(n, a),
         ops::IEQ => numerics::ieq(n, a, b),
@@ -77,7 +89,9 @@ fn comparison(op: u64, n: u64, a: u64, b: u64) -> u64 {
 }
 
 // From width m to width n.
-fn conversion(op: u64, m: u64, n: u64, a: u64) -> u64 {
+fn conversion(op: u64, m: u64, n: u64, a: u64) -> u64
+    ensures { λ r. ⌜ r ≡ conversion-of op m n a ⌝ }
+{
     match op {
         ops::WRAP => numerics::wrap(m, n, a),
         ops::EXTEND_U => numerics::extend_u(m, n, a),
@@ -87,13 +101,15 @@ fn conversion(op: u64, m: u64, n: u64, a: u64) -> u64 {
 }
 
 // Undefined also for a number that names no operation, so that the case fails.
-pub fn answer(op: u64, x: u64, y: u64, z: u64) -> Quotient {
+pub fn answer(op: u64, x: u64, y: u64, z: u64) -> Quotient
+    ensures { λ r. ⌜ r ≡ answer-of op x y z ⌝ }
+{
     match op {
         0..=15 => Quotient::Number(arithmetic(op, x, y, z)),
-        16..=31 => quotient(op, x, y, z),
-        32..=47 => Quotient::Number(bits(op, x, y, z)),
-        48..=63 => Quotient::Number(comparison(op, x, y, z)),
-        64..=79 => Quotient::Number(conversion(op, x, y, z)),
+        16..=31 => quotient(op - 16, x, y, z),
+        32..=47 => Quotient::Number(bits(op - 32, x, y, z)),
+        48..=63 => Quotient::Number(comparison(op - 48, x, y, z)),
+        64..=79 => Quotient::Number(conversion(op - 64, x, y, z)),
         _ => Quotient::Undefined,
     }
 }

@@ -1,39 +1,35 @@
--- `wasm_tests::run` meets its contract: a turn runs one case, the last is the table's last, and no more fail than run.
+-- A turn runs one case, up to the last.
 use Prim.Native.Nat.{_≤_, _-_}
-use mathlib.Core.Logic.{⊎-elim}
-use native.Mathlib.Omega.{arith}
+use borrow.Author.Needs.{needs}
 use Rattle.wasm_tests.proofs.run.Statement.{statement}
 use Rattle.wasm_tests.proofs.run.Tie as tie
 
 abbrev Inv-loop : tie.InvT-loop
-Inv-loop rows cases ran₀ failed₀ ran failed = (ran ≤ cases) × (failed ≤ ran)
+Inv-loop count case₀ t₀ case t = t .ran ≤ count
 
 abbrev μ-loop : tie.MeasureT-loop
-μ-loop rows cases ran₀ failed₀ ran failed = cases - ran
+μ-loop count case₀ t₀ case t = count - t .ran
 
 loop-holds : tie.Need-loop-holds Inv-loop μ-loop
-loop-holds c = omega arith
+loop-holds c = search needs
 
-mul-holds : tie.Need-mul-holds Inv-loop μ-loop
-mul-holds c = omega arith
+line-head-requires : tie.Need-line-head-requires Inv-loop μ-loop
+line-head-requires c κs = search needs
 
 holds-requires : tie.Need-holds-requires Inv-loop μ-loop
-holds-requires c κs = omega arith
+holds-requires c κs = search needs
 
-add-failed : tie.Need-add-failed Inv-loop μ-loop
-add-failed c = omega arith
-
-add-ran : tie.Need-add-ran Inv-loop μ-loop
-add-ran c = omega arith
+counted-requires : tie.Need-counted-requires Inv-loop μ-loop
+counted-requires c κs = search needs
 
 loop-less : tie.Need-loop-less Inv-loop μ-loop
-loop-less c = omega arith
+loop-less c = search needs
 
 loop-again : tie.Need-loop-again Inv-loop μ-loop
-loop-again c = ⊎-elim (λ w. omega arith) (λ w. omega arith) (c .if1 .came)
+loop-again c = search needs
 
 returns : tie.Need-returns Inv-loop μ-loop
-returns c = omega arith
+returns c = search needs
 
 pub run-spec : {M : Type 1} → statement M
 run-spec =
@@ -42,10 +38,9 @@ run-spec =
     Inv-loop
     μ-loop
     loop-holds
-    mul-holds
+    line-head-requires
     holds-requires
-    add-failed
-    add-ran
+    counted-requires
     loop-less
     loop-again
     returns)
