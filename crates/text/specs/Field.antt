@@ -67,7 +67,6 @@ stands s at b = ltb at (length s) && eqb (getD s at 0) b
 unfoldable pub byte-at : List ℕ → ℕ → ℕ → Expected
 byte-at s at b = expected (stands s at b) (at + 1)
 
-
 -- a comma at a position, and a number behind it
 unfoldable pub next-number-at : List ℕ → ℕ → Decimal
 next-number-at s at = cond (stands s at comma) (number-at s (at + 1)) Malformed
