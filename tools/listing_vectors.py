@@ -8,7 +8,7 @@ beside this script's folder). Written are stdin, the tickets with their answers,
 of 16 bytes, `LENGTH,LENGTH` and line feeds behind it, then the ticket's bytes and the answer's: a listing, or the line `refused,NUMBER,LINE`.
 
 The samples are 1,759 tickets answered by the unchanged Rust: `lower_expression` of docs/src lowered them, and a program written from
-document 01 did the reading, the refusals' lines and the printing. Their kinds, by name: typed and deep (rightly typed, nested), single (one
+documents 01 and 02 did the reading, the refusals' lines, the printing and the node of each instruction. Their kinds, by name: typed and deep (rightly typed, nested), single (one
 operation at width 8, 16, 32 or 64), singleany (widths 1 to 64), wild and small (readable, of any types), limits (near the limits), broken
 (damaged text).
 
@@ -32,39 +32,39 @@ def case(shows, ticket, answer):
 def printed_case():
     case("the printed case",
          HEAD + "t,bits,9/s,2,2,1,36/v,0,0,2,0/p,variable,0/n,2,read,0/n,2,int,12/n,2,binary,0,0,1/",
-         "storage,1,2,2,0,0,36/storage,2,3,0,1,1,2/i,add,1.0,0.0,#12,-,2/i,add,1.1,0.1,#0,2,-/i,and,1.1,1.1,#1/value,2,bytes,2,1.0,1.1/done,3,2,2/")
+         "storage,1,2,2,0,0,36/storage,2,3,0,1,1,2/i,add,1.0,0.0,#12,-,2,2/i,add,1.1,0.1,#0,2,-,2/i,and,1.1,1.1,#1,2/value,2,bytes,2,1.0,1.1/done,3,2,2/")
 
 
 def edges():
     # 8-bit variable, constant rotate: by how much, and what for it
     for op, distance, lines in (
-        (13, 0, "i,copy,1.0,0.0/"),
-        (13, 8, "i,copy,1.0,0.0/"),
-        (13, 4, "i,rol,1.0,0.0/i,rol,1.0,1.0/i,rol,1.0,1.0/i,rol,1.0,1.0/"),
-        (13, 5, "i,ror,1.0,0.0/i,ror,1.0,1.0/i,ror,1.0,1.0/"),
-        (14, 6, "i,rol,1.0,0.0/i,rol,1.0,1.0/"),
+        (13, 0, "i,copy,1.0,0.0,2/"),
+        (13, 8, "i,copy,1.0,0.0,2/"),
+        (13, 4, "i,rol,1.0,0.0,2/i,rol,1.0,1.0,2/i,rol,1.0,1.0,2/i,rol,1.0,1.0,2/"),
+        (13, 5, "i,ror,1.0,0.0,2/i,ror,1.0,1.0,2/i,ror,1.0,1.0,2/"),
+        (14, 6, "i,rol,1.0,0.0,2/i,rol,1.0,1.0,2/"),
     ):
         case("constant rotate %d by %d" % (op, distance),
              BYTE + "p,variable,0/n,2,read,0/n,2,int,%d/n,2,binary,%d,0,1/" % (distance, op),
              "storage,1,1,0,0,0,36/" + lines + "value,2,bytes,1,1.0/done,%d,1,1/" % lines.count("/"))
     case("16-bit constant rotate: one shift",
          HEAD + "t,bits,16/s,2,2,1,36/v,0,0,2,0/p,variable,0/n,2,read,0/n,2,int,4/n,2,binary,13,0,1/",
-         "storage,1,2,2,0,0,36/i,shift,3,16,2,1.0,1.1,2,0.0,0.1,2,#4,#0/value,2,bytes,2,1.0,1.1/done,1,1,1/")
+         "storage,1,2,2,0,0,36/i,shift,3,16,2,1.0,1.1,2,0.0,0.1,2,#4,#0,2/value,2,bytes,2,1.0,1.1/done,1,1,1/")
     case("8-bit add: no carry is used, yet one is allocated",
          BYTE + "p,variable,0/n,2,read,0/n,2,int,1/n,2,binary,0,0,1/",
-         "storage,1,1,0,0,0,36/storage,2,3,0,1,1,2/i,add,1.0,0.0,#1,-,-/value,2,bytes,1,1.0/done,1,2,2/")
+         "storage,1,1,0,0,0,36/storage,2,3,0,1,1,2/i,add,1.0,0.0,#1,-,-,2/value,2,bytes,1,1.0/done,1,2,2/")
     case("a constant too large for its bits 9: no mask",
          HEAD + "t,bits,9/n,2,int,65535/",
          "value,2,bytes,2,#255,#255/done,0,0,0/")
     case("Truncate 16 to 9: copied and masked",
          HEAD + "t,bits,16/t,bits,9/s,2,2,1,36/v,0,0,2,0/p,variable,0/n,2,read,0/n,3,convert,0,0/",
-         "storage,1,2,2,0,0,36/i,copy,1.0,0.0/i,copy,1.1,0.1/i,and,1.1,1.1,#1/value,3,bytes,2,1.0,1.1/done,3,1,1/")
+         "storage,1,2,2,0,0,36/i,copy,1.0,0.0,1/i,copy,1.1,0.1,1/i,and,1.1,1.1,#1,1/value,3,bytes,2,1.0,1.1/done,3,1,1/")
     case("Truncate 16 to 8: no instruction",
          HEAD + "t,bits,16/t,bits,8/s,2,2,1,36/v,0,0,2,0/p,variable,0/n,2,read,0/n,3,convert,0,0/",
          "value,3,bytes,1,0.0/done,0,0,0/")
     case("pointer plus 8-bit 255: the high byte adds #0",
          HEAD + "t,bits,8/s,2,2,1,36/v,0,0,1,0/p,variable,0/n,1,read,0/n,2,int,255/n,1,offset,0,1/",
-         "storage,1,2,2,0,0,36/storage,2,3,0,4,1,2/i,add,1.0,0.0,#255,-,2/i,add,1.1,0.1,#0,2,-/value,1,bytes,2,1.0,1.1/done,2,2,2/")
+         "storage,1,2,2,0,0,36/storage,2,3,0,4,1,2/i,add,1.0,0.0,#255,-,2,2/i,add,1.1,0.1,#0,2,-,2/value,1,bytes,2,1.0,1.1/done,2,2,2/")
     array = HEAD + "t,bits,8/t,array,2,3/s,2,3,1,36/v,0,0,3,0/p,variable,0/n,2,int,%d/p,element,0,0/n,2,read,1/"
     case("array of 3, index 2", array % 2, "value,2,bytes,1,0.2/done,0,0,0/")
     case("array of 3, index 3", array % 3, "refused,21,11/")
@@ -88,8 +88,8 @@ def compared_only():
     def nots(depth):
         return HEAD + "t,bits,8/n,2,int,7/" + "".join("n,2,unary,1,%d/" % i for i in range(depth - 1))
     case("depth 64 of operations", nots(64),
-         "".join("storage,%d,1,0,0,%d,36/" % (i, i) for i in range(63)) + "i,not,0.0,#7/"
-         + "".join("i,not,%d.0,%d.0/" % (i, i - 1) for i in range(1, 63)) + "value,2,bytes,1,62.0/done,63,63,63/")
+         "".join("storage,%d,1,0,0,%d,36/" % (i, i) for i in range(63)) + "i,not,0.0,#7,1/"
+         + "".join("i,not,%d.0,%d.0,%d/" % (i, i - 1, i + 1) for i in range(1, 63)) + "value,2,bytes,1,62.0/done,63,63,63/")
     case("depth 65 of operations", nots(65), "refused,9,69/")
 
     # places and nodes count together: a variable has depth 1, each offset of 0 from it one more, the read one more again
@@ -105,7 +105,7 @@ def temptations():
     case("the condition's comparison stands behind both choices",
          BYTE + "p,variable,0/p,variable,0/p,variable,0/n,2,read,0/n,2,read,1/n,2,unary,1,1/n,2,read,2/n,2,unary,0,3/n,2,select,2,4,0/",
          "storage,1,1,0,0,0,36/storage,2,1,0,0,1,36/storage,3,3,0,3,2,2/storage,4,0,0,7,3,36/storage,5,1,0,0,4,36/"
-         "i,not,1.0,0.0/i,sub,2.0,#0,0.0,-,-/i,compare,1,8,4,1,0.0,1,#0/i,selbyte,5.0,4,1.0,2.0/value,2,bytes,1,5.0/done,4,5,5/")
+         "i,not,1.0,0.0,2/i,sub,2.0,#0,0.0,-,-,4/i,compare,1,8,4,1,0.0,1,#0,5/i,selbyte,5.0,4,1.0,2.0,5/value,2,bytes,1,5.0/done,4,5,5/")
     case("a choice's refusal comes before the condition's, which stands on an earlier line",
          BYTE + "p,variable,1/n,2,f32,0/n,2,int,0/n,2,read,0/n,2,select,1,2,0/",
          "refused,20,10/")
@@ -117,22 +117,22 @@ def temptations():
     static = HEAD + "t,bits,8/s,2,16,%d,64/g,0,7,2,0/"
     case("the address of a static at 7 with a constant 3: 3",
          static % 0 + "n,1,staticaddress,0,3/",
-         "storage,1,2,2,0,0,36/i,address,1.0,1.1,0,3/value,1,bytes,2,1.0,1.1/done,1,1,1/")
+         "storage,1,2,2,0,0,36/i,address,1.0,1.1,0,3,0/value,1,bytes,2,1.0,1.1/done,1,1,1/")
     case("the same of a storage that a function owns: narrowed too",
          static % 1 + "n,1,staticaddress,0,3/",
-         "storage,1,2,2,0,0,36/narrowed,0/i,address,1.0,1.1,0,3/value,1,bytes,2,1.0,1.1/done,1,1,1/")
+         "storage,1,2,2,0,0,36/narrowed,0/i,address,1.0,1.1,0,3,0/value,1,bytes,2,1.0,1.1/done,1,1,1/")
     case("the address of the static as a place has its own offset",
          static % 0 + "p,static,0/n,1,address,0/",
-         "storage,1,2,2,0,0,36/i,address,1.0,1.1,0,7/value,1,bytes,2,1.0,1.1/done,1,1,1/")
+         "storage,1,2,2,0,0,36/i,address,1.0,1.1,0,7,0/value,1,bytes,2,1.0,1.1/done,1,1,1/")
 
     # Refusing the address of an offset into a packed bool: the Rust accepts it; the bool itself is 21.
     packed = HEAD + "t,bits,8/s,0,0,%d,36/v,0,0,0,1/p,variable,0/"
     case("the address of an offset into a packed bool",
          packed % 1 + "n,2,int,3/p,offset,0,0/n,1,address,1/",
-         "storage,1,2,2,0,0,36/narrowed,0/i,address,1.0,1.1,0,3/value,1,bytes,2,1.0,1.1/done,1,1,1/")
+         "storage,1,2,2,0,0,36/narrowed,0/i,address,1.0,1.1,0,3,1/value,1,bytes,2,1.0,1.1/done,1,1,1/")
     case("the same where the program owns it: nothing narrowed",
          packed % 0 + "n,2,int,0/p,offset,0,0/n,1,address,1/",
-         "storage,1,2,2,0,0,36/i,address,1.0,1.1,0,0/value,1,bytes,2,1.0,1.1/done,1,1,1/")
+         "storage,1,2,2,0,0,36/i,address,1.0,1.1,0,0,1/value,1,bytes,2,1.0,1.1/done,1,1,1/")
     case("the address of the packed bool itself", packed % 1 + "n,1,address,0/", "refused,21,8/")
     case("the address of a packed bool that is static", HEAD + "s,0,0,0,2/g,0,0,0,1/n,1,staticaddress,0,0/", "refused,21,6/")
 
@@ -145,7 +145,7 @@ def temptations():
          "refused,24,8/")
     case("a bit use of it: a select's condition needs no comparison",
          HEAD + "t,bits,8/n,2,int,1/n,2,int,2/n,0,bool,1/n,2,convert,11,2/n,2,select,0,1,3/",
-         "storage,0,1,0,0,0,36/i,selbyte,0.0,#1,#1,#2/value,2,bytes,1,0.0/done,1,1,1/")
+         "storage,0,1,0,0,0,36/i,selbyte,0.0,#1,#1,#2,4/value,2,bytes,1,0.0/done,1,1,1/")
 
     # Looking into a float operation's operands: it refuses 24 at once.
     case("a float operation over a place that is not there", HEAD + "t,float,32/p,variable,9/n,2,read,0/n,2,funary,0/", "refused,24,7/")
@@ -159,7 +159,7 @@ def temptations():
     # Reading all bytes of a constant rotate distance over 16 bytes: the port takes the lowest byte.
     # 18446744073709551365 is 5 in the lowest byte and 255 in the seven others; ZeroExtend makes it as long as the type.
     distance = HEAD + "t,bits,8/t,bits,64/t,opaque,%d/s,1,0,1,36/v,0,0,2,0/p,variable,0/n,2,read,0/n,3,int,18446744073709551365/n,4,convert,1,1/n,2,binary,%d,0,2/"
-    three = "storage,1,1,0,0,0,36/i,%s,1.0,0.0/i,%s,1.0,1.0/i,%s,1.0,1.0/value,2,bytes,1,1.0/done,3,1,1/"
+    three = "storage,1,1,0,0,0,36/i,%s,1.0,0.0,3/i,%s,1.0,1.0,3/i,%s,1.0,1.0,3/value,2,bytes,1,1.0/done,3,1,1/"
     for size in (16, 17, 1024):
         case("a constant distance of %d bytes, RotateLeft" % size, distance % (size, 13), three % ("ror", "ror", "ror"))
         case("a constant distance of %d bytes, RotateRight" % size, distance % (size, 14), three % ("rol", "rol", "rol"))
@@ -170,7 +170,7 @@ def differences():
     case("25: a pointer base of one byte", HEAD + "t,bits,8/n,2,int,0/n,2,int,0/n,1,offset,0,1/", "refused,25,7/")
     case("a pointer base of two bytes of any type",
          HEAD + "t,bits,9/n,2,int,258/n,2,int,3/n,1,offset,0,1/",
-         "storage,0,2,2,0,0,36/storage,1,3,0,4,1,2/i,add,0.0,#2,#3,-,1/i,add,0.1,#1,#0,1,-/value,1,bytes,2,0.0,0.1/done,2,2,2/")
+         "storage,0,2,2,0,0,36/storage,1,3,0,4,1,2/i,add,0.0,#2,#3,-,1,2/i,add,0.1,#1,#0,1,-,2/value,1,bytes,2,0.0,0.1/done,2,2,2/")
     case("26: an integer constant of 17 bytes", HEAD + "t,opaque,17/n,2,int,0/", "refused,26,5/")
     case("an integer constant of 16 bytes",
          HEAD + "t,opaque,16/n,2,int,258/",
@@ -178,7 +178,7 @@ def differences():
     far = HEAD + "s,1,0,0,0/v,0,65535,0,0/p,variable,0/n,0,int,%d/p,offset,0,0/n,0,read,1/"
     case("27: a place's offset of 65,536", far % 1, "refused,27,9/")
     case("27: an offset that overflows 64 bits", far % (2 ** 64 - 1), "refused,27,9/")
-    case("a place's offset of 65,535", far % 0, "storage,1,0,0,8,0,36/i,bytetobit,1,0.65535/value,0,bit,1/done,1,1,1/")
+    case("a place's offset of 65,535", far % 0, "storage,1,0,0,8,0,36/i,bytetobit,1,0.65535,1/value,0,bit,1/done,1,1,1/")
 
 
 def text_lengths():

@@ -33,7 +33,8 @@ use Rattle.emission.specs.declared.UnaryForm.{UnaryForm}
 use Rattle.emission.specs.declared.BinaryForm.{BinaryForm}
 use Rattle.emission.specs.Appends.{Texts, texts, counters-of, Positions, Room, room-less}
 use Rattle.emission.specs.Emits.{Emits, Allocates}
-use Rattle.emission.specs.Does.{Does, Refuses, Meets, meets-by, does-then, does-next, does-more, does-emits, does-allocate, room-done}
+use Rattle.lir.specs.declared.NodeId.{NodeId}
+use Rattle.emission.specs.Does.{at-node, Does, Refuses, Meets, meets-by, does-then, does-next, does-more, does-emits, does-allocate, room-done}
 use Rattle.emission.specs.Forms.{HasWidth, width-option, odd-width, prepend-nothing, unary-form-of, binary-form-of}
 use Rattle.emission.specs.Temporaries.{location}
 use Rattle.values.specs.declared.State.{State}
@@ -82,6 +83,7 @@ module _ {A : Type 0} {m k : Lower A} (e : Same m k) where
         kinds = x .kinds;
         is = λ h. e .is h (counters-of c) ∙ x .is h;
         appends = x .appends;
+        node = x .node;
         few-storages = x .few-storages;
         few-kinds = x .few-kinds;
       }
@@ -107,7 +109,7 @@ allocates-refuses f x y = record { is = λ h. rw (x .is h, y .is h) }
 pub does-positions : {A : Type 0} {n : ℕ} {t t1 : Texts} {c c1 : Counters} {m : Lower A} {a : A} → Does n t c m a t1 c1 → Positions t1 c1
 unfolding sat
 does-positions {t = t} {c = c} x =
-    let y = x .appends nowhere in
+    let y = x .appends (at-node (c .node .0)) refl in
     record {
       code = rw (y .coded .text, length-sets) (y .coded .fits);
       store = rw (y .stored .text, length-sets) (y .stored .fits);
@@ -124,6 +126,7 @@ does-answer b x =
       kinds = x .kinds;
       is = λ h. rw (x .is h, append-nil (x .storages), append-nil (monad.made-all h (x .kinds)));
       appends = x .appends;
+      node = x .node;
       few-storages = x .few-storages;
       few-kinds = x .few-kinds;
     }
@@ -233,7 +236,7 @@ module _ (T : Tables) (ty : ℕ) (f : List ByteStorage → Lower Unit) where
       unfolding filled
       filled-does {l = l} q x =
           does-more (omega arith)
-          (does-then (λ t. behind t) (does-allocate l (x .appends nowhere .coded .fits) q new) (does-same behind-same (does-answer (place k ty) x)))
+          (does-then (λ t. behind t) (does-allocate l (x .appends (at-node (c1 .node .0)) refl .coded .fits) q new) (does-same behind-same (does-answer (place k ty) x)))
 
       pub filled-refuses : {m : ℕ} → Refuses c1 (masked T ty k (f (bytes-from k 0 n))) m → Refuses c (filled T ty f) m
       unfolding filled
@@ -250,16 +253,17 @@ module _ (T : Tables) (ty : ℕ) (f : List ByteStorage → Lower Unit) where
 
 -- ---------------------------------------------------------------- its value
 
-module _ (T : Tables) (R : Readable T) {ty : ℕ} {s : State} {stack : List ℕ} (r : StepRoom T ty s stack) where
+module _ (T : Tables) (R : Readable T) {nd ty : ℕ} {s : State} {stack : List ℕ} (r : StepRoom T nd ty s stack) where
   pub fill-room : {n : ℕ} → type-size T ty ≡ n → Room (2 * n + 4) (s .counters)
   unfolding type-size
   fill-room e = room-less (omega (arith, R .types .size-most ty)) (r .room)
 
   pub read-room : {n : ℕ} {A : Type 0} {t t1 : Texts} {m : Lower A} {a : A} {c1 : Counters} → type-size T ty ≡ n → Does (2 * n + 4) t (s .counters) m a t1 c1
-      → TypeRoom T ty 0 (record { counters = c1; top = s .top }) stack
+      → TypeRoom T nd ty 0 (record { counters = c1; top = s .top }) stack
   unfolding type-size
   read-room e d =
       record {
+        node = r .node ∙ sym (ap (λ (z : NodeId). z .0) (d .node));
         room = room-done (room-less (omega (arith, R .types .size-most ty)) (r .room)) d;
         top = r .top;
         reach = omega (arith, R .types .size-most ty);
@@ -269,12 +273,12 @@ pub unread-refused : (T : Tables) (ty : ℕ) (f : List ByteStorage → Lower Uni
 unfolding read-filled
 unread-refused T ty f h x = refuses-then (λ t. read-location T t) x .is h
 
-pub read-after : {k : ℕ} {code store code′ store′ : List ℕ} {s : State} {c1 : Counters} {b : Bufs} {r : Lowered} (T : Tables) (ty i : ℕ) (f : List ByteStorage → Lower Unit) (h : hir.At) (n stack : List ℕ)
+pub read-after : {k : ℕ} {code store code′ store′ : List ℕ} {s : State} {c1 : Counters} {b : Bufs} {r : Lowered} (T : Tables) (ty i : ℕ) (f : List ByteStorage → Lower Unit) (h : hir.At) (n stack : List ℕ) → h .node ≡ s .counters .node .0
     → Does k (texts code store) (s .counters) (filled T ty f) (place i ty) (texts code′ store′) c1
     → MeetsValue (bufs code′ store′ n stack) (record { counters = c1; top = s .top }) (read-location T (place i ty) h (counters-of c1)) b r
     → MeetsValue (bufs code store n stack) s (read-filled T ty f h (counters-in s)) b r
 unfolding read-filled
-read-after {s = s} T ty i f h n stack d v = does-meets {s = s} h n stack d (λ t. read-location T t) v
+read-after {s = s} T ty i f h n stack g d v = does-meets {s = s} h n stack g d (λ t. read-location T t) v
 
 -- ---------------------------------------------------------------- operands
 

@@ -151,7 +151,7 @@ fn fill_temporary(code: &mut [u8], store: &mut [u8], c: Counters, ty: u64, size:
 
 // An operation's value, of the node's type.
 fn operate(rows: &[u64], nodes: &[u64], lists: &[u64], counts: Counts, code: &mut [u8], store: &mut [u8], stack: &mut [u64], s: State, f: Operation, h: At) -> Lowered
-    requires { ⌜ (Readable (tables-of (now rows) (now nodes) (now lists) counts)) × (Fits f) × (StepRoom (tables-of (now rows) (now nodes) (now lists) counts) (h .ty) s (now stack)) ⌝ }
+    requires { ⌜ (Readable (tables-of (now rows) (now nodes) (now lists) counts)) × (Fits f) × (StepRoom (tables-of (now rows) (now nodes) (now lists) counts) (h .node .0) (h .ty) s (now stack)) ⌝ }
     ensures { λ r. ⌜ ((n : List ℕ) → MeetsValue (bufs (now (code .entry)) (now (store .entry)) n (now (stack .entry))) s (read-filled (tables-of (now (rows .entry)) (now (nodes .entry)) (now (lists .entry)) counts) (h .ty) (instructions-of (tables-of (now (rows .entry)) (now (nodes .entry)) (now (lists .entry)) counts) f (h .ty)) (at-of h) (counters-in s)) (bufs (now (code .exit)) (now (store .exit)) n (now (stack .exit))) r) ⌝ }
 {
     let before = s.counters;
@@ -172,7 +172,7 @@ fn operate(rows: &[u64], nodes: &[u64], lists: &[u64], counts: Counts, code: &mu
 }
 
 pub fn lower_integer_unary(rows: &[u64], nodes: &[u64], lists: &[u64], counts: Counts, code: &mut [u8], store: &mut [u8], stack: &mut [u64], s: State, op: u64, v: Value, h: At) -> Lowered
-    requires { ⌜ (Readable (tables-of (now rows) (now nodes) (now lists) counts)) × (Sound-value v) × (StepRoom (tables-of (now rows) (now nodes) (now lists) counts) (h .ty) s (now stack)) ⌝ }
+    requires { ⌜ (Readable (tables-of (now rows) (now nodes) (now lists) counts)) × (Sound-value v) × (StepRoom (tables-of (now rows) (now nodes) (now lists) counts) (h .node .0) (h .ty) s (now stack)) ⌝ }
     ensures { λ r. ⌜ ((n : List ℕ) → MeetsValue (bufs (now (code .entry)) (now (store .entry)) n (now (stack .entry))) s (lower-integer-unary (tables-of (now (rows .entry)) (now (nodes .entry)) (now (lists .entry)) counts) (ticket.integer-unary-op op) (flat-of (head-of v)) (h .ty) (at-of h) (counters-in s)) (bufs (now (code .exit)) (now (store .exit)) n (now (stack .exit))) r) ⌝ }
 {
     match steps::value_bytes(v) {
@@ -183,7 +183,7 @@ pub fn lower_integer_unary(rows: &[u64], nodes: &[u64], lists: &[u64], counts: C
 
 // The left operand is looked at before the right.
 pub fn lower_integer_binary(rows: &[u64], nodes: &[u64], lists: &[u64], counts: Counts, code: &mut [u8], store: &mut [u8], stack: &mut [u64], s: State, op: u64, l: Value, r: Value, h: At) -> Lowered
-    requires { ⌜ (Readable (tables-of (now rows) (now nodes) (now lists) counts)) × (Sound-value l) × (Sound-value r) × (StepRoom (tables-of (now rows) (now nodes) (now lists) counts) (h .ty) s (now stack)) ⌝ }
+    requires { ⌜ (Readable (tables-of (now rows) (now nodes) (now lists) counts)) × (Sound-value l) × (Sound-value r) × (StepRoom (tables-of (now rows) (now nodes) (now lists) counts) (h .node .0) (h .ty) s (now stack)) ⌝ }
     ensures { λ res. ⌜ ((n : List ℕ) → MeetsValue (bufs (now (code .entry)) (now (store .entry)) n (now (stack .entry))) s (lower-integer-binary (tables-of (now (rows .entry)) (now (nodes .entry)) (now (lists .entry)) counts) (ticket.integer-binary-op op) (flat-of (head-of l)) (flat-of (head-of r)) (h .ty) (at-of h) (counters-in s)) (bufs (now (code .exit)) (now (store .exit)) n (now (stack .exit))) res) ⌝ }
 {
     match steps::value_bytes(l) {

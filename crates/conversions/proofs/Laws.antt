@@ -28,6 +28,7 @@ use Rattle.lir.specs.PutFields.{length-tab}
 use Rattle.lir.specs.declared.BitOperand.{BitOperand as Bit}
 use Rattle.lir.specs.declared.Bytes.{Bytes}
 use Rattle.lir.specs.declared.Source.{Source}
+use Rattle.lir.specs.declared.NodeId.{NodeId}
 use Rattle.lir.specs.declared.StorageId.{StorageId}
 use Rattle.lir.specs.declared.Destinations.{Destinations}
 use Rattle.emission.specs.declared.Counters.{Counters}
@@ -102,13 +103,17 @@ size-fits rows nodes lists c ty R e = omega (arith, R .types .size-most ty, size
 
 -- ---------------------------------------------------------------- room
 
-module _ {T : Tables} {ty : ℕ} {s : State} {stack : List ℕ} where
-  pub room-read : Readable T → RoomFor 2048 T ty s stack → TypeRoom T ty 0 s stack
-  room-read R k = let z = R .types .size-most ty in record { room = room-less (omega arith) (k .room); top = k .top; reach = omega arith }
+-- a step keeps the node
+node-kept : {nd : ℕ} {a b : NodeId} → nd ≡ a .0 → b ≡ a → nd ≡ b .0
+node-kept e k = e ∙ sym (ap (λ (z : NodeId). z .0) k)
 
-  pub room-new : {A : Type 0} {l l1 : List ℕ} {c1 : Counters} {m : Lower A} {x : A} → StepRoom T ty s stack → Allocates l (s .counters) m x l1 c1
-      → RoomFor 4095 T ty (record { counters = c1; top = s .top }) stack
-  room-new k a = record { room = room-allocated (k .room) a; top = k .top }
+module _ {T : Tables} {nd ty : ℕ} {s : State} {stack : List ℕ} where
+  pub room-read : Readable T → RoomFor 2048 T nd ty s stack → TypeRoom T nd ty 0 s stack
+  room-read R k = let z = R .types .size-most ty in record { node = k .node; room = room-less (omega arith) (k .room); top = k .top; reach = omega arith }
+
+  pub room-new : {A : Type 0} {l l1 : List ℕ} {c1 : Counters} {m : Lower A} {x : A} → StepRoom T nd ty s stack → Allocates l (s .counters) m x l1 c1
+      → RoomFor 4095 T nd ty (record { counters = c1; top = s .top }) stack
+  room-new k a = record { node = node-kept (k .node) (a .node); room = room-allocated (k .room) a; top = k .top }
 
 pub copies-few : (d : Destinations) (b : Bytes) → length (zip2 (λ i x a. copy-byte x a) 0 (destinations-of d) (bytes-of b)) ≤ d .count
 copies-few d b = rw (copy-table d b, length-tab) (omega arith)
@@ -116,30 +121,30 @@ copies-few d b = rw (copy-table d b, length-tab) (omega arith)
 pub bits-few : (d : Destinations) (b : Bit) → length (bit-to-bytes (destinations-of d) (bit-operand-of b)) ≤ d .count
 bits-few d b = rw (bit-table d b, length-tab) (omega arith)
 
-module _ {T : Tables} {ty : ℕ} {s : State} {stack l l1 : List ℕ} {c1 : Counters} where
-  pub room-masked : (odd : ℕ) (d : Destinations) → RoomFor 3071 T ty s stack → Emits l (s .counters) (masks odd (destinations-of d)) l1 c1
-      → RoomFor 2048 T ty (record { counters = c1; top = s .top }) stack
-  room-masked odd d k e = let f = masks-length odd (destinations-of d) in record { room = room-emitted 2048 (omega arith) (k .room) e; top = k .top }
+module _ {T : Tables} {nd ty : ℕ} {s : State} {stack l l1 : List ℕ} {c1 : Counters} where
+  pub room-masked : (odd : ℕ) (d : Destinations) → RoomFor 3071 T nd ty s stack → Emits l (s .counters) (masks odd (destinations-of d)) l1 c1
+      → RoomFor 2048 T nd ty (record { counters = c1; top = s .top }) stack
+  room-masked odd d k e = let f = masks-length odd (destinations-of d) in record { node = node-kept (k .node) (e .node); room = room-emitted 2048 (omega arith) (k .room) e; top = k .top }
 
-  pub room-copied : (d : Destinations) (b : Bytes) → d .count ≤ 1024 → RoomFor 4095 T ty s stack → Emits l (s .counters) (zip2 (λ i x a. copy-byte x a) 0 (destinations-of d) (bytes-of b)) l1 c1
-      → RoomFor 3071 T ty (record { counters = c1; top = s .top }) stack
-  room-copied d b h k e = let f = copies-few d b in record { room = room-emitted 3071 (omega arith) (k .room) e; top = k .top }
+  pub room-copied : (d : Destinations) (b : Bytes) → d .count ≤ 1024 → RoomFor 4095 T nd ty s stack → Emits l (s .counters) (zip2 (λ i x a. copy-byte x a) 0 (destinations-of d) (bytes-of b)) l1 c1
+      → RoomFor 3071 T nd ty (record { counters = c1; top = s .top }) stack
+  room-copied d b h k e = let f = copies-few d b in record { node = node-kept (k .node) (e .node); room = room-emitted 3071 (omega arith) (k .room) e; top = k .top }
 
-  pub room-extended : {i : InstructionKind} → RoomFor 4095 T ty s stack → Emits l (s .counters) (i ∷ []) l1 c1 → RoomFor 3071 T ty (record { counters = c1; top = s .top }) stack
-  room-extended k e = record { room = room-emitted 3071 (omega arith) (k .room) e; top = k .top }
+  pub room-extended : {i : InstructionKind} → RoomFor 4095 T nd ty s stack → Emits l (s .counters) (i ∷ []) l1 c1 → RoomFor 3071 T nd ty (record { counters = c1; top = s .top }) stack
+  room-extended k e = record { node = node-kept (k .node) (e .node); room = room-emitted 3071 (omega arith) (k .room) e; top = k .top }
 
-  pub room-flagged : (d : Destinations) (b : Bit) → d .count ≤ 1024 → RoomFor 4095 T ty s stack → Emits l (s .counters) (bit-to-bytes (destinations-of d) (bit-operand-of b)) l1 c1
-      → RoomFor 2048 T ty (record { counters = c1; top = s .top }) stack
-  room-flagged d b h k e = let f = bits-few d b in record { room = room-emitted 2048 (omega arith) (k .room) e; top = k .top }
+  pub room-flagged : (d : Destinations) (b : Bit) → d .count ≤ 1024 → RoomFor 4095 T nd ty s stack → Emits l (s .counters) (bit-to-bytes (destinations-of d) (bit-operand-of b)) l1 c1
+      → RoomFor 2048 T nd ty (record { counters = c1; top = s .top }) stack
+  room-flagged d b h k e = let f = bits-few d b in record { node = node-kept (k .node) (e .node); room = room-emitted 2048 (omega arith) (k .room) e; top = k .top }
 
 -- ---------------------------------------------------------------- a step that appends, and then one that answers a value
 
-module _ {code code1 store : List ℕ} {s : State} {c1 : Counters} {b2 : Bufs} {r : Lowered} (h : hir.At) (ns stack : List ℕ) (x : length store ≤ last) (y : s .counters .stored ≤ last) where
+module _ {code code1 store : List ℕ} {s : State} {c1 : Counters} {b2 : Bufs} {r : Lowered} (h : hir.At) (ns stack : List ℕ) (x : length store ≤ last) (y : s .counters .stored ≤ last) (g : h .node ≡ s .counters .node .0) where
   -- instructions, and then the rest
   pub emits-meets : {ks : List InstructionKind} (p : Lower Value) → Emits code (s .counters) ks code1 c1
       → MeetsValue (bufs code1 store ns stack) (record { counters = c1; top = s .top }) (p h (counters-of c1)) b2 r
       → MeetsValue (bufs code store ns stack) s ((emits ks >> p) h (counters-in s)) b2 r
-  emits-meets {ks} p e k = next-meets {n = length ks} {s = s} h ns stack (does-emits store x y (omega arith) e) p k
+  emits-meets {ks} p e k = next-meets {n = length ks} {s = s} h ns stack g (does-emits store x y (omega arith) e) p k
 
   module _ (T : Tables) (id : StorageId) (ty : ℕ) {d : Destinations} (f : Fills T (id .0) ty d) where
     pub mask-meets : {odd : ℕ} → odd-bits T ty ≡ odd → Emits code (s .counters) (masks odd (destinations-of d)) code1 c1
@@ -170,10 +175,10 @@ module _ {code code1 store : List ℕ} {s : State} {c1 : Counters} {b2 : Bufs} {
 
 -- a storage, and then the rest
 pub new-meets : {code store store1 : List ℕ} {s : State} {m : Lower Location} {l : Location} {c1 : Counters} {b2 : Bufs} {r : Lowered} (h : hir.At) (ns stack : List ℕ) (f : Location → Lower Value)
-    → length code ≤ last → s .counters .at ≤ last → Allocates store (s .counters) m l store1 c1
+    → length code ≤ last → s .counters .at ≤ last → h .node ≡ s .counters .node .0 → Allocates store (s .counters) m l store1 c1
     → MeetsValue (bufs code store1 ns stack) (record { counters = c1; top = s .top }) (f l h (counters-of c1)) b2 r
     → MeetsValue (bufs code store ns stack) s ((m >>= f) h (counters-in s)) b2 r
-new-meets {code = code} {s = s} h ns stack f x y a k = does-meets {s = s} h ns stack (does-allocate code x y a) f k
+new-meets {code = code} {s = s} h ns stack f x y g a k = does-meets {s = s} h ns stack g (does-allocate code x y a) f k
 
 pub new-stops : {s : State} {m : Lower Location} {n : ℕ} {b b1 : Bufs} (h : hir.At) (f : Location → Lower Value) → Refuses (s .counters) m n
     → MeetsValue b s ((m >>= f) h (counters-in s)) b1 (Lowered.Refused n (h .line))
@@ -196,6 +201,7 @@ module _ (l l1 : List ℕ) (c : Counters) (T : Tables) (ty : ℕ) (z : ty ≡ 0 
         counted = a .counted;
         storage = a .storage;
         temporary = a .temporary;
+        node = a .node;
       }
   byte-case (Temporary.Refused n) r = record { is = λ h. rw (r .is h) }
 

@@ -50,6 +50,7 @@ does-as {c = c} e x =
       kinds = x .kinds;
       is = λ h. e h (counters-of c) ∙ x .is h;
       appends = x .appends;
+      node = x .node;
       few-storages = x .few-storages;
       few-kinds = x .few-kinds;
     }
@@ -80,12 +81,12 @@ module _ (T : Tables) (R : TypesRight T) (id k : StorageId) (base offset : Bytes
       (does-allocate code x y (place-sized T 1 2 (λ z. omega arith) (pointer-size T R) a))
       (does-as in-place (does-allocating sums (omega arith) (adds-few (two id) base offset k) b e summed))
 
-  pub offset-meets : {code code1 store store1 store2 : List ℕ} {s : State} {c1 c2 c3 : Counters} {r : Lowered} (h : hir.At) (n stack : List ℕ) → length code ≤ last → s .counters .at ≤ last
+  pub offset-meets : {code code1 store store1 store2 : List ℕ} {s : State} {c1 c2 c3 : Counters} {r : Lowered} (h : hir.At) (n stack : List ℕ) → length code ≤ last → s .counters .at ≤ last → h .node ≡ s .counters .node .0
       → Allocates store (s .counters) (allocate-sized 2) (id .0) store1 c1 → Allocates store1 c1 (allocate-carry pointer-carry) (k .0) store2 c2
       → Emits code c2 (adds (k .0) (destinations-of (two id)) (bytes-of base) (bytes-of offset)) code1 c3
       → r ≡ Lowered.Done (pointer-in id) (record { counters = c3; top = s .top })
       → MeetsValue (bufs code store n stack) s (offset-by T (bytes-of base) (bytes-of offset) h (counters-in s)) (bufs code1 store2 n stack) r
-  offset-meets {s = s} h n stack x y a b e p = pointer-meets {s = s} id h n stack (offset-does x y a b e) p
+  offset-meets {s = s} h n stack x y g a b e p = pointer-meets {s = s} id h n stack g (offset-does x y a b e) p
 
 -- ---------------------------------------------------------------- from the definition to these steps
 

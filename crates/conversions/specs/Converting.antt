@@ -56,8 +56,9 @@ pub record Reinterprets (op : ℕ) (r : Bool) : Type 0 where
 
 -- ---------------------------------------------------------------- a new temporary, filled and read
 
--- in the middle of a step at the type ty: n more of each counter, and the records of a value of that type but the first
-pub record RoomFor (n : ℕ) (T : Tables) (ty : ℕ) (s : State) (stack : List ℕ) : Type 0 where
+-- in the middle of node m's step at the type ty: n more of each counter, and the records of a value of that type but the first
+pub record RoomFor (n : ℕ) (T : Tables) (m ty : ℕ) (s : State) (stack : List ℕ) : Type 0 where
+  pub node : m ≡ s .counters .node .0
   pub room : Room n (s .counters)
   pub top : s .top + 8 * weight-of T ty ≤ length stack + 8
 

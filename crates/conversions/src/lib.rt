@@ -118,7 +118,7 @@ fn byte_temporary(rows: &[u64], nodes: &[u64], lists: &[u64], counts: Counts, st
 }
 
 fn read_temporary(rows: &[u64], nodes: &[u64], lists: &[u64], counts: Counts, code: &mut [u8], store: &mut [u8], stack: &mut [u64], s: State, id: StorageId, ty: u64, h: At) -> Lowered
-    requires { ⌜ (Readable (tables-of (now rows) (now nodes) (now lists) counts)) × (RoomFor 2048 (tables-of (now rows) (now nodes) (now lists) counts) ty s (now stack)) ⌝ }
+    requires { ⌜ (Readable (tables-of (now rows) (now nodes) (now lists) counts)) × (RoomFor 2048 (tables-of (now rows) (now nodes) (now lists) counts) (h .node .0) ty s (now stack)) ⌝ }
     ensures { λ r. ⌜ ((n : List ℕ) → MeetsValue (bufs (now (code .entry)) (now (store .entry)) n (now (stack .entry))) s (read-location (tables-of (now (rows .entry)) (now (nodes .entry)) (now (lists .entry)) counts) (location (id .0) ty) (at-of h) (counters-in s)) (bufs (now (code .exit)) (now (store .exit)) n (now (stack .exit))) r) ⌝ }
 {
     reads::read_location(rows, nodes, lists, counts, code, store, stack, s, id, 0, ty, ty == 0, h)
@@ -126,7 +126,7 @@ fn read_temporary(rows: &[u64], nodes: &[u64], lists: &[u64], counts: Counts, co
 
 // The last byte keeps its odd bits.
 fn masked(rows: &[u64], nodes: &[u64], lists: &[u64], counts: Counts, code: &mut [u8], store: &mut [u8], stack: &mut [u64], s: State, id: StorageId, ty: u64, h: At) -> Lowered
-    requires { ⌜ (Readable (tables-of (now rows) (now nodes) (now lists) counts)) × (RoomFor 3071 (tables-of (now rows) (now nodes) (now lists) counts) ty s (now stack)) ⌝ }
+    requires { ⌜ (Readable (tables-of (now rows) (now nodes) (now lists) counts)) × (RoomFor 3071 (tables-of (now rows) (now nodes) (now lists) counts) (h .node .0) ty s (now stack)) ⌝ }
     ensures { λ r. ⌜ ((n : List ℕ) → MeetsValue (bufs (now (code .entry)) (now (store .entry)) n (now (stack .entry))) s (masked (tables-of (now (rows .entry)) (now (nodes .entry)) (now (lists .entry)) counts) (location (id .0) ty) (at-of h) (counters-in s)) (bufs (now (code .exit)) (now (store .exit)) n (now (stack .exit))) r) ⌝ }
 {
     let before = s.counters;
@@ -143,7 +143,7 @@ fn masked(rows: &[u64], nodes: &[u64], lists: &[u64], counts: Counts, code: &mut
 // ---------------------------------------------------------------- truncation and zero extension
 
 fn copied(rows: &[u64], nodes: &[u64], lists: &[u64], counts: Counts, code: &mut [u8], store: &mut [u8], stack: &mut [u64], s: State, id: StorageId, b: Bytes, ty: u64, h: At) -> Lowered
-    requires { ⌜ (Readable (tables-of (now rows) (now nodes) (now lists) counts)) × (Small b) × (RoomFor 4095 (tables-of (now rows) (now nodes) (now lists) counts) ty s (now stack)) ⌝ }
+    requires { ⌜ (Readable (tables-of (now rows) (now nodes) (now lists) counts)) × (Small b) × (RoomFor 4095 (tables-of (now rows) (now nodes) (now lists) counts) (h .node .0) ty s (now stack)) ⌝ }
     ensures { λ r. ⌜ ((n : List ℕ) → MeetsValue (bufs (now (code .entry)) (now (store .entry)) n (now (stack .entry))) s (copied (tables-of (now (rows .entry)) (now (nodes .entry)) (now (lists .entry)) counts) (bytes-of b) (location (id .0) ty) (at-of h) (counters-in s)) (bufs (now (code .exit)) (now (store .exit)) n (now (stack .exit))) r) ⌝ }
 {
     let before = s.counters;
@@ -157,7 +157,7 @@ fn copied(rows: &[u64], nodes: &[u64], lists: &[u64], counts: Counts, code: &mut
 }
 
 fn copied_new(rows: &[u64], nodes: &[u64], lists: &[u64], counts: Counts, code: &mut [u8], store: &mut [u8], stack: &mut [u64], s: State, b: Bytes, ty: u64, h: At) -> Lowered
-    requires { ⌜ (Readable (tables-of (now rows) (now nodes) (now lists) counts)) × (Small b) × (StepRoom (tables-of (now rows) (now nodes) (now lists) counts) ty s (now stack)) ⌝ }
+    requires { ⌜ (Readable (tables-of (now rows) (now nodes) (now lists) counts)) × (Small b) × (StepRoom (tables-of (now rows) (now nodes) (now lists) counts) (h .node .0) ty s (now stack)) ⌝ }
     ensures { λ r. ⌜ ((n : List ℕ) → MeetsValue (bufs (now (code .entry)) (now (store .entry)) n (now (stack .entry))) s (copied-new (tables-of (now (rows .entry)) (now (nodes .entry)) (now (lists .entry)) counts) (bytes-of b) ty (at-of h) (counters-in s)) (bufs (now (code .exit)) (now (store .exit)) n (now (stack .exit))) r) ⌝ }
 {
     let before = s.counters;
@@ -177,7 +177,7 @@ fn copied_new(rows: &[u64], nodes: &[u64], lists: &[u64], counts: Counts, code: 
 
 // Bytes as a value: themselves, or where the type has odd bits a copy without the others.
 fn normalized_bytes(rows: &[u64], nodes: &[u64], lists: &[u64], counts: Counts, code: &mut [u8], store: &mut [u8], stack: &mut [u64], s: State, b: Bytes, ty: u64, h: At) -> Lowered
-    requires { ⌜ (Readable (tables-of (now rows) (now nodes) (now lists) counts)) × (Small b) × (StepRoom (tables-of (now rows) (now nodes) (now lists) counts) ty s (now stack)) ⌝ }
+    requires { ⌜ (Readable (tables-of (now rows) (now nodes) (now lists) counts)) × (Small b) × (StepRoom (tables-of (now rows) (now nodes) (now lists) counts) (h .node .0) ty s (now stack)) ⌝ }
     ensures { λ r. ⌜ ((n : List ℕ) → MeetsValue (bufs (now (code .entry)) (now (store .entry)) n (now (stack .entry))) s (normalized-bytes (tables-of (now (rows .entry)) (now (nodes .entry)) (now (lists .entry)) counts) ty (bytes-of b) (at-of h) (counters-in s)) (bufs (now (code .exit)) (now (store .exit)) n (now (stack .exit))) r) ⌝ }
 {
     if odd_bits(rows, nodes, lists, counts, ty) == 0 {
@@ -193,7 +193,7 @@ fn normalized_bytes(rows: &[u64], nodes: &[u64], lists: &[u64], counts: Counts, 
 }
 
 fn resized(rows: &[u64], nodes: &[u64], lists: &[u64], counts: Counts, code: &mut [u8], store: &mut [u8], stack: &mut [u64], s: State, v: Value, h: At) -> Lowered
-    requires { ⌜ (Readable (tables-of (now rows) (now nodes) (now lists) counts)) × (Sound-value v) × (StepRoom (tables-of (now rows) (now nodes) (now lists) counts) (h .ty) s (now stack)) ⌝ }
+    requires { ⌜ (Readable (tables-of (now rows) (now nodes) (now lists) counts)) × (Sound-value v) × (StepRoom (tables-of (now rows) (now nodes) (now lists) counts) (h .node .0) (h .ty) s (now stack)) ⌝ }
     ensures { λ r. ⌜ ((n : List ℕ) → MeetsValue (bufs (now (code .entry)) (now (store .entry)) n (now (stack .entry))) s (resized (tables-of (now (rows .entry)) (now (nodes .entry)) (now (lists .entry)) counts) (flat-of (head-of v)) (h .ty) (at-of h) (counters-in s)) (bufs (now (code .exit)) (now (store .exit)) n (now (stack .exit))) r) ⌝ }
 {
     match steps::value_bytes(v) {
@@ -208,7 +208,7 @@ fn resized(rows: &[u64], nodes: &[u64], lists: &[u64], counts: Counts, code: &mu
 // ---------------------------------------------------------------- sign extension
 
 fn extended(rows: &[u64], nodes: &[u64], lists: &[u64], counts: Counts, code: &mut [u8], store: &mut [u8], stack: &mut [u64], s: State, id: StorageId, width: u64, b: Bytes, ty: u64, h: At) -> Lowered
-    requires { ⌜ (Readable (tables-of (now rows) (now nodes) (now lists) counts)) × (Small b) × (RoomFor 4095 (tables-of (now rows) (now nodes) (now lists) counts) ty s (now stack)) ⌝ }
+    requires { ⌜ (Readable (tables-of (now rows) (now nodes) (now lists) counts)) × (Small b) × (RoomFor 4095 (tables-of (now rows) (now nodes) (now lists) counts) (h .node .0) ty s (now stack)) ⌝ }
     ensures { λ r. ⌜ ((n : List ℕ) → MeetsValue (bufs (now (code .entry)) (now (store .entry)) n (now (stack .entry))) s (extended (tables-of (now (rows .entry)) (now (nodes .entry)) (now (lists .entry)) counts) width (bytes-of b) (location (id .0) ty) (at-of h) (counters-in s)) (bufs (now (code .exit)) (now (store .exit)) n (now (stack .exit))) r) ⌝ }
 {
     let before = s.counters;
@@ -222,7 +222,7 @@ fn extended(rows: &[u64], nodes: &[u64], lists: &[u64], counts: Counts, code: &m
 }
 
 fn extended_new(rows: &[u64], nodes: &[u64], lists: &[u64], counts: Counts, code: &mut [u8], store: &mut [u8], stack: &mut [u64], s: State, width: u64, b: Bytes, ty: u64, h: At) -> Lowered
-    requires { ⌜ (Readable (tables-of (now rows) (now nodes) (now lists) counts)) × (Small b) × (StepRoom (tables-of (now rows) (now nodes) (now lists) counts) ty s (now stack)) ⌝ }
+    requires { ⌜ (Readable (tables-of (now rows) (now nodes) (now lists) counts)) × (Small b) × (StepRoom (tables-of (now rows) (now nodes) (now lists) counts) (h .node .0) ty s (now stack)) ⌝ }
     ensures { λ r. ⌜ ((n : List ℕ) → MeetsValue (bufs (now (code .entry)) (now (store .entry)) n (now (stack .entry))) s (extended-new (tables-of (now (rows .entry)) (now (nodes .entry)) (now (lists .entry)) counts) width (bytes-of b) ty (at-of h) (counters-in s)) (bufs (now (code .exit)) (now (store .exit)) n (now (stack .exit))) r) ⌝ }
 {
     let before = s.counters;
@@ -242,7 +242,7 @@ fn extended_new(rows: &[u64], nodes: &[u64], lists: &[u64], counts: Counts, code
 
 // The width is looked at before the operand.
 fn sign_extended(rows: &[u64], nodes: &[u64], lists: &[u64], counts: Counts, code: &mut [u8], store: &mut [u8], stack: &mut [u64], s: State, v: Value, h: At) -> Lowered
-    requires { ⌜ (Readable (tables-of (now rows) (now nodes) (now lists) counts)) × (Sound-value v) × (StepRoom (tables-of (now rows) (now nodes) (now lists) counts) (h .ty) s (now stack)) ⌝ }
+    requires { ⌜ (Readable (tables-of (now rows) (now nodes) (now lists) counts)) × (Sound-value v) × (StepRoom (tables-of (now rows) (now nodes) (now lists) counts) (h .node .0) (h .ty) s (now stack)) ⌝ }
     ensures { λ r. ⌜ ((n : List ℕ) → MeetsValue (bufs (now (code .entry)) (now (store .entry)) n (now (stack .entry))) s (sign-extended (tables-of (now (rows .entry)) (now (nodes .entry)) (now (lists .entry)) counts) (flat-of (head-of v)) (h .ty) (at-of h) (counters-in s)) (bufs (now (code .exit)) (now (store .exit)) n (now (stack .exit))) r) ⌝ }
 {
     match width(rows, nodes, lists, counts, v.ty) {
@@ -257,7 +257,7 @@ fn sign_extended(rows: &[u64], nodes: &[u64], lists: &[u64], counts: Counts, cod
 // ---------------------------------------------------------------- from a Bool
 
 fn flagged(rows: &[u64], nodes: &[u64], lists: &[u64], counts: Counts, code: &mut [u8], store: &mut [u8], stack: &mut [u64], s: State, id: StorageId, b: BitOperand, ty: u64, h: At) -> Lowered
-    requires { ⌜ (Readable (tables-of (now rows) (now nodes) (now lists) counts)) × (RoomFor 4095 (tables-of (now rows) (now nodes) (now lists) counts) ty s (now stack)) ⌝ }
+    requires { ⌜ (Readable (tables-of (now rows) (now nodes) (now lists) counts)) × (RoomFor 4095 (tables-of (now rows) (now nodes) (now lists) counts) (h .node .0) ty s (now stack)) ⌝ }
     ensures { λ r. ⌜ ((n : List ℕ) → MeetsValue (bufs (now (code .entry)) (now (store .entry)) n (now (stack .entry))) s (flagged (tables-of (now (rows .entry)) (now (nodes .entry)) (now (lists .entry)) counts) (bit-operand-of b) (location (id .0) ty) (at-of h) (counters-in s)) (bufs (now (code .exit)) (now (store .exit)) n (now (stack .exit))) r) ⌝ }
 {
     let before = s.counters;
@@ -271,7 +271,7 @@ fn flagged(rows: &[u64], nodes: &[u64], lists: &[u64], counts: Counts, code: &mu
 }
 
 fn flagged_new(rows: &[u64], nodes: &[u64], lists: &[u64], counts: Counts, code: &mut [u8], store: &mut [u8], stack: &mut [u64], s: State, b: BitOperand, ty: u64, h: At) -> Lowered
-    requires { ⌜ (Readable (tables-of (now rows) (now nodes) (now lists) counts)) × (StepRoom (tables-of (now rows) (now nodes) (now lists) counts) ty s (now stack)) ⌝ }
+    requires { ⌜ (Readable (tables-of (now rows) (now nodes) (now lists) counts)) × (StepRoom (tables-of (now rows) (now nodes) (now lists) counts) (h .node .0) ty s (now stack)) ⌝ }
     ensures { λ r. ⌜ ((n : List ℕ) → MeetsValue (bufs (now (code .entry)) (now (store .entry)) n (now (stack .entry))) s (flagged-new (tables-of (now (rows .entry)) (now (nodes .entry)) (now (lists .entry)) counts) (bit-operand-of b) ty (at-of h) (counters-in s)) (bufs (now (code .exit)) (now (store .exit)) n (now (stack .exit))) r) ⌝ }
 {
     let before = s.counters;
@@ -290,7 +290,7 @@ fn flagged_new(rows: &[u64], nodes: &[u64], lists: &[u64], counts: Counts, code:
 }
 
 fn boolean_to_integer(rows: &[u64], nodes: &[u64], lists: &[u64], counts: Counts, code: &mut [u8], store: &mut [u8], stack: &mut [u64], s: State, v: Value, h: At) -> Lowered
-    requires { ⌜ (Readable (tables-of (now rows) (now nodes) (now lists) counts)) × (StepRoom (tables-of (now rows) (now nodes) (now lists) counts) (h .ty) s (now stack)) ⌝ }
+    requires { ⌜ (Readable (tables-of (now rows) (now nodes) (now lists) counts)) × (StepRoom (tables-of (now rows) (now nodes) (now lists) counts) (h .node .0) (h .ty) s (now stack)) ⌝ }
     ensures { λ r. ⌜ ((n : List ℕ) → MeetsValue (bufs (now (code .entry)) (now (store .entry)) n (now (stack .entry))) s (boolean-to-integer (tables-of (now (rows .entry)) (now (nodes .entry)) (now (lists .entry)) counts) (flat-of (head-of v)) (h .ty) (at-of h) (counters-in s)) (bufs (now (code .exit)) (now (store .exit)) n (now (stack .exit))) r) ⌝ }
 {
     match steps::value_bit(v) {
@@ -359,7 +359,7 @@ pub fn reinterpreted(rows: &[u64], counts: Counts, s: State, v: Value, h: At) ->
 
 // Only a value under another type has parts; the other forms look at its head alone.
 pub fn lower_conversion(rows: &[u64], nodes: &[u64], lists: &[u64], counts: Counts, code: &mut [u8], store: &mut [u8], stack: &mut [u64], s: State, op: u64, v: Value, h: At) -> Lowered
-    requires { ⌜ (Readable (tables-of (now rows) (now nodes) (now lists) counts)) × (Sound-value v) × (StepRoom (tables-of (now rows) (now nodes) (now lists) counts) (h .ty) s (now stack)) ⌝ }
+    requires { ⌜ (Readable (tables-of (now rows) (now nodes) (now lists) counts)) × (Sound-value v) × (StepRoom (tables-of (now rows) (now nodes) (now lists) counts) (h .node .0) (h .ty) s (now stack)) ⌝ }
     ensures { λ r. ⌜ ((n : List ℕ) → (conversion-form (ticket.conversion-op op) ≡ reinterpreting → ⊥) → MeetsValue (bufs (now (code .entry)) (now (store .entry)) n (now (stack .entry))) s (lower-conversion (tables-of (now (rows .entry)) (now (nodes .entry)) (now (lists .entry)) counts) (ticket.conversion-op op) (flat-of (head-of v)) (h .ty) (at-of h) (counters-in s)) (bufs (now (code .exit)) (now (store .exit)) n (now (stack .exit))) r) ⌝ }
 {
     match conversion_form(op) {
@@ -377,7 +377,7 @@ pub fn lower_conversion(rows: &[u64], nodes: &[u64], lists: &[u64], counts: Coun
 // Two bytes added to two, as a new pointer.
 fn offset_by(code: &mut [u8], store: &mut [u8], s: State, base: Bytes, offset: Bytes) -> Lowered
     requires { ⌜ (Small base) × (Small offset) × (Room 4096 (s .counters)) ⌝ }
-    ensures { λ r. ⌜ ((T : Tables) (h : hir.At) (n stack : List ℕ) → TypesRight T → MeetsValue (bufs (now (code .entry)) (now (store .entry)) n stack) s (offset-by T (bytes-of base) (bytes-of offset) h (counters-in s)) (bufs (now (code .exit)) (now (store .exit)) n stack) r) ⌝ }
+    ensures { λ r. ⌜ ((T : Tables) (h : hir.At) (n stack : List ℕ) → TypesRight T → h .node ≡ s .counters .node .0 → MeetsValue (bufs (now (code .entry)) (now (store .entry)) n stack) s (offset-by T (bytes-of base) (bytes-of offset) h (counters-in s)) (bufs (now (code .exit)) (now (store .exit)) n stack) r) ⌝ }
 {
     let counters = s.counters;
     let new = addressing::allocate_pointer(store, counters);
@@ -396,7 +396,7 @@ fn offset_by(code: &mut [u8], store: &mut [u8], s: State, base: Bytes, offset: B
 // The base has two bytes at least, of which no more are looked at.
 fn offset_bytes(code: &mut [u8], store: &mut [u8], s: State, base: Bytes, offset: Bytes, h: At) -> Lowered
     requires { ⌜ (Small base) × (Small offset) × (Room 4096 (s .counters)) ⌝ }
-    ensures { λ r. ⌜ ((T : Tables) (n stack : List ℕ) → TypesRight T → MeetsValue (bufs (now (code .entry)) (now (store .entry)) n stack) s (offset-bytes T (bytes-of base) (bytes-of offset) (at-of h) (counters-in s)) (bufs (now (code .exit)) (now (store .exit)) n stack) r) ⌝ }
+    ensures { λ r. ⌜ ((T : Tables) (n stack : List ℕ) → TypesRight T → h .node .0 ≡ s .counters .node .0 → MeetsValue (bufs (now (code .entry)) (now (store .entry)) n stack) s (offset-bytes T (bytes-of base) (bytes-of offset) (at-of h) (counters-in s)) (bufs (now (code .exit)) (now (store .exit)) n stack) r) ⌝ }
 {
     if base.total < 2 {
         return Lowered::Refused(25, h.line);
@@ -406,7 +406,7 @@ fn offset_bytes(code: &mut [u8], store: &mut [u8], s: State, base: Bytes, offset
 
 pub fn lower_pointer_offset(code: &mut [u8], store: &mut [u8], s: State, b: Value, o: Value, h: At) -> Lowered
     requires { ⌜ (Sound-value b) × (Sound-value o) × (Room 4096 (s .counters)) ⌝ }
-    ensures { λ r. ⌜ ((T : Tables) (n stack : List ℕ) → TypesRight T → MeetsValue (bufs (now (code .entry)) (now (store .entry)) n stack) s (lower-pointer-offset T (flat-of (head-of b)) (flat-of (head-of o)) (at-of h) (counters-in s)) (bufs (now (code .exit)) (now (store .exit)) n stack) r) ⌝ }
+    ensures { λ r. ⌜ ((T : Tables) (n stack : List ℕ) → TypesRight T → h .node .0 ≡ s .counters .node .0 → MeetsValue (bufs (now (code .entry)) (now (store .entry)) n stack) s (lower-pointer-offset T (flat-of (head-of b)) (flat-of (head-of o)) (at-of h) (counters-in s)) (bufs (now (code .exit)) (now (store .exit)) n stack) r) ⌝ }
 {
     match steps::value_bytes(b) {
         Operand::Absent => Lowered::Refused(24, h.line),

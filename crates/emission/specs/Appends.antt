@@ -1,5 +1,5 @@
 -- What a step appends: storages and instructions, as texts behind those that stand there, with the counters advanced.
-use mathlib.Core.Path.{_≡_, refl}
+use mathlib.Core.Path.{_≡_, refl, _∙_}
 use mathlib.Core.List.{List, _∷_, _++_, append-assoc, append-nil, []}
 use Prim.Native.Nat.{ℕ, _+_, _≤_}
 use native.Mathlib.Omega.{arith}
@@ -31,6 +31,7 @@ pub record Appends (t : Texts) (c : Counters) (ss : List Storage) (is : List Ins
   pub counted : c′ .instructions ≡ c .instructions + length is
   pub storage : c′ .storage ≡ c .storage + length ss
   pub temporary : c′ .temporary ≡ c .temporary + length ss
+  pub node : c′ .node ≡ c .node
 
 -- room for n more of each: no counter overflows
 pub record Room (n : ℕ) (c : Counters) : Type 0 where
@@ -66,6 +67,7 @@ append-none {t} {c} p =
       counted = omega arith;
       storage = omega arith;
       temporary = omega arith;
+      node = refl;
     }
 
 -- one step, and then another
@@ -79,6 +81,7 @@ append-then {ss} {ss1} {is} {is1} a b =
       counted = omega (arith, length-append is is1);
       storage = omega arith;
       temporary = omega arith;
+      node = b .node ∙ a .node;
     }
 
 -- less room

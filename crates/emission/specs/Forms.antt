@@ -131,6 +131,7 @@ width-done f w x =
       kinds = x .kinds;
       is = λ h. rw (w .is, x .is h);
       appends = x .appends;
+      node = x .node;
       few-storages = x .few-storages;
       few-kinds = x .few-kinds;
     }

@@ -49,6 +49,7 @@ module _ {l l1 : List ℕ} {c c1 : Counters} {s : ℕ} where
         counted = a .counted;
         storage = a .storage;
         temporary = a .temporary;
+        node = a .node;
       })
 
   pub place-sized : (T : Tables) (ty n : ℕ) → (ty ≡ 0 → ⊥) → type-size T ty ≡ n → Allocates l c (allocate-sized n) s l1 c1 → Allocates l c (allocate-temporary T ty) (location s ty) l1 c1
@@ -63,6 +64,7 @@ module _ {l l1 : List ℕ} {c c1 : Counters} {s : ℕ} where
         counted = a .counted;
         storage = a .storage;
         temporary = a .temporary;
+        node = a .node;
       }
 
   pub place-byte : {n : ℕ} → n ≡ 1 → Allocates l c (allocate-storage lir.byte lir.tmp temporary-regions) s l1 c1 → Allocates l c (allocate-sized n) s l1 c1

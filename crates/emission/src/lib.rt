@@ -13,6 +13,7 @@ use lir::InstructionKind;
 use lir::IntegerBinaryBytesOp;
 use lir::IntegerUnaryBytesOp;
 use lir::NewStorage;
+use lir::NodeId;
 use lir::Purpose;
 use lir::RotateDirection;
 use lir::ShiftOp;
@@ -45,13 +46,15 @@ ghost use Rattle.emission.specs.Kinds.{Makes, Fit, byte-kind, zero-bytes
 ghost use Rattle.emission.specs.Temporaries.{MeetsTemporary};
 ghost use Rattle.emission.specs.Forms.{HasWidth, unary-form-of, binary-form-of, comparing, comparing-zero};
 
-// Where the texts of instructions and of storages go on, how many there are, and the next storage's and temporary's numbers.
+// Where the texts of instructions and of storages go on, how many there are, the next storage's and temporary's numbers, and the node
+// whose own step it is.
 pub struct Counters {
     pub at: usize,
     pub instructions: u64,
     pub stored: usize,
     pub storage: u64,
     pub temporary: u64,
+    pub node: NodeId,
 }
 
 // The next storage's and the next temporary's numbers, lent to what allocates.
@@ -144,6 +147,7 @@ pub fn allocate_storage(
             regions,
         },
     );
+    let node = c.node;
     Allocated {
         id,
         counters: Counters {
@@ -152,6 +156,7 @@ pub fn allocate_storage(
             stored,
             storage: next.storage,
             temporary: next.temporary,
+            node,
         },
     }
 }
@@ -212,13 +217,15 @@ pub fn emit(code: &mut [u8], c: Counters, kind: InstructionKind) -> Counters
     requires { ⌜ (Sound kind) × (Room 1 c) ⌝ }
     ensures { λ r. ⌜ Emits (now (code .entry)) c (kind-of kind ∷ []) (now (code .exit)) r ⌝ }
 {
-    let at = lir::print_instruction(code, c.at, Instruction { kind });
+    let node = c.node;
+    let at = lir::print_instruction(code, c.at, Instruction { kind, node });
     Counters {
         at,
         instructions: c.instructions + 1,
         stored: c.stored,
         storage: c.storage,
         temporary: c.temporary,
+        node,
     }
 }
 
@@ -234,13 +241,16 @@ pub fn emit_select_byte(
     requires { ⌜ Room 1 c ⌝ }
     ensures { λ r. ⌜ Emits (now (code .entry)) c (kind-of (InstructionKind.SelectByte d condition t f) ∷ []) (now (code .exit)) r ⌝ }
 {
-    let at = lir::print_select_byte(code, c.at, d, condition, t, f);
+    let node = c.node;
+    let p = lir::print_select_byte(code, c.at, d, condition, t, f);
+    let at = lir::print_node(code, p, node);
     Counters {
         at,
         instructions: c.instructions + 1,
         stored: c.stored,
         storage: c.storage,
         temporary: c.temporary,
+        node,
     }
 }
 

@@ -133,7 +133,7 @@ kind-of (InstructionKind.IntegerUnaryBytes op w ds s) = lir.integer-unary-bytes 
 kind-of (InstructionKind.IntegerBinaryBytes op w ds l r) = lir.integer-binary-bytes (binary-op-of op) w (destinations-of ds) (bytes-of l) (bytes-of r)
 
 abbrev pub instruction-of : Instruction → lir.Instruction
-instruction-of i = record { kind = kind-of (i .kind) }
+instruction-of i = record { kind = kind-of (i .kind); node = i .node .0 }
 
 -- ---------------------------------------------------------------- storages
 

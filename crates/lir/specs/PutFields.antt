@@ -10,15 +10,18 @@ use Rattle.spec.specs.Text.{comma, line-feed, digits, fields, line}
 use Rattle.spec.specs.Text as text
 use Rattle.spec.specs.Lir as lir
 use Rattle.spec.specs.Allocation.{bytes-from}
-use Rattle.spec.specs.Print.{listed, byte-storage, byte-operand, instruction-line}
+use Rattle.spec.specs.Print.{listed, byte-storage, byte-operand, instruction-line, instruction-fields}
 use Rattle.text.specs.Put.{Put, then, none, last}
 use Rattle.lir.specs.Abstract.{tab, byte-at, bytes-of, kind-of}
 use Rattle.lir.specs.declared.Bytes.{Bytes}
 use Rattle.lir.specs.declared.InstructionKind.{InstructionKind}
 
--- an instruction's line
-abbrev pub kind-line : InstructionKind → List ℕ
-kind-line k = instruction-line (record { kind = kind-of k })
+-- an instruction's line up to its node, and from there on
+abbrev pub kind-text : InstructionKind → List ℕ
+kind-text k = text.bytes "i" ++ fields (instruction-fields (kind-of k))
+
+abbrev pub node-text : ℕ → List ℕ
+node-text n = fields (digits n ∷ []) ++ line-feed ∷ []
 
 -- the fields fs put from `at` on, and the position behind them
 pub record PutFields (l : List ℕ) (at : ℕ) (fs : List (List ℕ)) (l′ : List ℕ) (r : ℕ) : Type 0 where
@@ -47,11 +50,16 @@ module _ {l : List ℕ} {at : ℕ} {l1 : List ℕ} {p : ℕ} where
   unfolding line
   whole-line a b c = then (then a (b .put)) c
 
-  -- the same of an instruction, `i` and its first field being put as one word
-  pub whole-instruction : {k : List ℕ} {fs : List (List ℕ)} {l2 : List ℕ} {q : ℕ} {l3 : List ℕ} {r : ℕ}
-      → Put l at (105 ∷ comma ∷ k) l1 p → PutFields l1 p fs l2 q → Put l2 q (line-feed ∷ []) l3 r → Put l at (line (text.bytes "i") (k ∷ fs)) l3 r
-  unfolding line fields
-  whole-instruction a b c = then (then a (b .put)) c
+  -- the same of an instruction up to its node, `i` and its first field being put as one word
+  pub kind-put : {k : List ℕ} {fs : List (List ℕ)} {l2 : List ℕ} {q : ℕ} → Put l at (105 ∷ comma ∷ k) l1 p → PutFields l1 p fs l2 q → Put l at (text.bytes "i" ++ fields (k ∷ fs)) l2 q
+  unfolding fields
+  kind-put a b = then a (b .put)
+
+  -- and its node
+  pub node-put : (k : lir.InstructionKind) (n : ℕ) {l2 : List ℕ} {q : ℕ} → Put l at (text.bytes "i" ++ fields (instruction-fields k)) l1 p → Put l1 p (node-text n) l2 q
+      → Put l at (instruction-line (record { kind = k; node = n })) l2 q
+  unfolding instruction-line line
+  node-put k n a b = rw (fields-append (instruction-fields k) (digits n ∷ []), append-assoc) (then a b)
 
 -- ---------------------------------------------------------------- lists
 

@@ -8,7 +8,7 @@ ghost use Rattle.spec.specs.Print.{byte-storage, byte-operand, bit-operand, car
 ghost use Rattle.text.specs.Put.{Put};
 ghost use Rattle.lir.specs.Abstract.{byte-storage-of, byte-operand-of, bit-operand-of, carry-of, byte-at, bytes-of, destinations-of, byte-binary-op-of, rotate-direction-of, shift-op-of, compare-op-of, unary-op-of, binary-op-of, instruction-of, storage-kind-of, purpose-of, storage-of, Small};
 ghost use Rattle.lir.specs.Sound.{Sound};
-ghost use Rattle.lir.specs.PutFields.{PutFields, kind-line};
+ghost use Rattle.lir.specs.PutFields.{PutFields, kind-text, node-text};
 ghost use Rattle.lir.specs.Lines.{unit-fields, bit-fields, bytes-fields, aggregate-fields};
 
 // A storage's number.
@@ -16,6 +16,9 @@ pub struct StorageId(pub u64);
 
 // A temporary's number.
 pub struct TemporaryId(pub u64);
+
+// A node's number: its line counted among the nodes, from 0.
+pub struct NodeId(pub u64);
 
 // A byte of a storage.
 pub struct ByteStorage {
@@ -131,6 +134,7 @@ pub enum InstructionKind {
 // What lowering makes and the printer takes.
 pub struct Instruction {
     pub kind: InstructionKind,
+    pub node: NodeId,
 }
 
 pub enum StorageKind {
@@ -505,22 +509,20 @@ fn print_rotate_word(buf: &mut [u8], at: usize, dir: RotateDirection) -> usize
     }
 }
 
-// ---------------------------------------------------------------- a line for each kind of instruction
+// ---------------------------------------------------------------- each kind of instruction, up to its node
 
 fn print_copy(buf: &mut [u8], at: usize, d: ByteStorage, s: ByteOperand) -> usize
-    ensures { λ r. ⌜ Put (now (buf .entry)) at (kind-line (InstructionKind.CopyByte d s)) (now (buf .exit)) r ⌝ }
+    ensures { λ r. ⌜ Put (now (buf .entry)) at (kind-text (InstructionKind.CopyByte d s)) (now (buf .exit)) r ⌝ }
 {
     let p = text::print_bytes(buf, at, b"i,copy");
-    let q = place_byte(buf, p, d, s);
-    text::put(buf, q, b'\n')
+    place_byte(buf, p, d, s)
 }
 
 fn print_not(buf: &mut [u8], at: usize, d: ByteStorage, s: ByteOperand) -> usize
-    ensures { λ r. ⌜ Put (now (buf .entry)) at (kind-line (InstructionKind.NotByte d s)) (now (buf .exit)) r ⌝ }
+    ensures { λ r. ⌜ Put (now (buf .entry)) at (kind-text (InstructionKind.NotByte d s)) (now (buf .exit)) r ⌝ }
 {
     let p = text::print_bytes(buf, at, b"i,not");
-    let q = place_byte(buf, p, d, s);
-    text::put(buf, q, b'\n')
+    place_byte(buf, p, d, s)
 }
 
 fn print_byte_binary(
@@ -531,12 +533,11 @@ fn print_byte_binary(
     x: ByteOperand,
     y: ByteOperand,
 ) -> usize
-    ensures { λ r. ⌜ Put (now (buf .entry)) at (kind-line (InstructionKind.ByteBinary op d x y)) (now (buf .exit)) r ⌝ }
+    ensures { λ r. ⌜ Put (now (buf .entry)) at (kind-text (InstructionKind.ByteBinary op d x y)) (now (buf .exit)) r ⌝ }
 {
     let p = print_byte_binary_word(buf, at, op);
     let q = field_place(buf, p, d);
-    let s = two_bytes(buf, q, x, y);
-    text::put(buf, s, b'\n')
+    two_bytes(buf, q, x, y)
 }
 
 fn print_add(
@@ -548,11 +549,10 @@ fn print_add(
     i: Carry,
     o: Carry,
 ) -> usize
-    ensures { λ r. ⌜ Put (now (buf .entry)) at (kind-line (InstructionKind.Add d x y i o)) (now (buf .exit)) r ⌝ }
+    ensures { λ r. ⌜ Put (now (buf .entry)) at (kind-text (InstructionKind.Add d x y i o)) (now (buf .exit)) r ⌝ }
 {
     let p = text::print_bytes(buf, at, b"i,add");
-    let q = sum_fields(buf, p, d, x, y, i, o);
-    text::put(buf, q, b'\n')
+    sum_fields(buf, p, d, x, y, i, o)
 }
 
 fn print_subtract(
@@ -564,11 +564,10 @@ fn print_subtract(
     i: Carry,
     o: Carry,
 ) -> usize
-    ensures { λ r. ⌜ Put (now (buf .entry)) at (kind-line (InstructionKind.Subtract d x y i o)) (now (buf .exit)) r ⌝ }
+    ensures { λ r. ⌜ Put (now (buf .entry)) at (kind-text (InstructionKind.Subtract d x y i o)) (now (buf .exit)) r ⌝ }
 {
     let p = text::print_bytes(buf, at, b"i,sub");
-    let q = sum_fields(buf, p, d, x, y, i, o);
-    text::put(buf, q, b'\n')
+    sum_fields(buf, p, d, x, y, i, o)
 }
 
 fn print_rotate(
@@ -578,11 +577,10 @@ fn print_rotate(
     d: ByteStorage,
     s: ByteOperand,
 ) -> usize
-    ensures { λ r. ⌜ Put (now (buf .entry)) at (kind-line (InstructionKind.Rotate dir d s)) (now (buf .exit)) r ⌝ }
+    ensures { λ r. ⌜ Put (now (buf .entry)) at (kind-text (InstructionKind.Rotate dir d s)) (now (buf .exit)) r ⌝ }
 {
     let p = print_rotate_word(buf, at, dir);
-    let q = place_byte(buf, p, d, s);
-    text::put(buf, q, b'\n')
+    place_byte(buf, p, d, s)
 }
 
 fn print_address(
@@ -593,21 +591,19 @@ fn print_address(
     s: StorageId,
     o: u64,
 ) -> usize
-    ensures { λ r. ⌜ Put (now (buf .entry)) at (kind-line (InstructionKind.AddressOf low high s o)) (now (buf .exit)) r ⌝ }
+    ensures { λ r. ⌜ Put (now (buf .entry)) at (kind-text (InstructionKind.AddressOf low high s o)) (now (buf .exit)) r ⌝ }
 {
     let p = text::print_bytes(buf, at, b"i,address");
     let q = two_places(buf, p, low, high);
-    let t = two_numbers(buf, q, s.0, o);
-    text::put(buf, t, b'\n')
+    two_numbers(buf, q, s.0, o)
 }
 
 fn print_function(buf: &mut [u8], at: usize, low: ByteStorage, high: ByteStorage, f: u64) -> usize
-    ensures { λ r. ⌜ Put (now (buf .entry)) at (kind-line (InstructionKind.FunctionAddress low high f)) (now (buf .exit)) r ⌝ }
+    ensures { λ r. ⌜ Put (now (buf .entry)) at (kind-text (InstructionKind.FunctionAddress low high f)) (now (buf .exit)) r ⌝ }
 {
     let p = text::print_bytes(buf, at, b"i,function");
     let q = two_places(buf, p, low, high);
-    let t = field_number(buf, q, f);
-    text::put(buf, t, b'\n')
+    field_number(buf, q, f)
 }
 
 fn print_shift(
@@ -620,12 +616,11 @@ fn print_shift(
     y: Bytes,
 ) -> usize
     requires { ⌜ (Small x) × (Small y) ⌝ }
-    ensures { λ r. ⌜ Put (now (buf .entry)) at (kind-line (InstructionKind.ShiftBytes op w d x y)) (now (buf .exit)) r ⌝ }
+    ensures { λ r. ⌜ Put (now (buf .entry)) at (kind-text (InstructionKind.ShiftBytes op w d x y)) (now (buf .exit)) r ⌝ }
 {
     let n = shift_number(op);
     let p = text::print_bytes(buf, at, b"i,shift");
-    let q = binary_fields(buf, p, n, w, d, x, y);
-    text::put(buf, q, b'\n')
+    binary_fields(buf, p, n, w, d, x, y)
 }
 
 fn print_compare(
@@ -638,13 +633,12 @@ fn print_compare(
     y: Bytes,
 ) -> usize
     requires { ⌜ (Small x) × (Small y) ⌝ }
-    ensures { λ r. ⌜ Put (now (buf .entry)) at (kind-line (InstructionKind.CompareBytes op w d x y)) (now (buf .exit)) r ⌝ }
+    ensures { λ r. ⌜ Put (now (buf .entry)) at (kind-text (InstructionKind.CompareBytes op w d x y)) (now (buf .exit)) r ⌝ }
 {
     let n = compare_number(op);
     let p = text::print_bytes(buf, at, b"i,compare");
     let q = three_numbers(buf, p, n, w, d.0);
-    let s = two_values(buf, q, x, y);
-    text::put(buf, s, b'\n')
+    two_values(buf, q, x, y)
 }
 
 pub fn print_select_byte(
@@ -655,13 +649,12 @@ pub fn print_select_byte(
     t: ByteOperand,
     f: ByteOperand,
 ) -> usize
-    ensures { λ r. ⌜ Put (now (buf .entry)) at (kind-line (InstructionKind.SelectByte d condition t f)) (now (buf .exit)) r ⌝ }
+    ensures { λ r. ⌜ Put (now (buf .entry)) at (kind-text (InstructionKind.SelectByte d condition t f)) (now (buf .exit)) r ⌝ }
 {
     let p = text::print_bytes(buf, at, b"i,selbyte");
     let q = field_place(buf, p, d);
     let s = field_bit(buf, q, condition);
-    let e = two_bytes(buf, s, t, f);
-    text::put(buf, e, b'\n')
+    two_bytes(buf, s, t, f)
 }
 
 fn print_select_bit(
@@ -672,41 +665,37 @@ fn print_select_bit(
     t: BitOperand,
     f: BitOperand,
 ) -> usize
-    ensures { λ r. ⌜ Put (now (buf .entry)) at (kind-line (InstructionKind.SelectBit d condition t f)) (now (buf .exit)) r ⌝ }
+    ensures { λ r. ⌜ Put (now (buf .entry)) at (kind-text (InstructionKind.SelectBit d condition t f)) (now (buf .exit)) r ⌝ }
 {
     let p = text::print_bytes(buf, at, b"i,selbit");
     let q = field_number(buf, p, d.0);
-    let s = three_bits(buf, q, condition, t, f);
-    text::put(buf, s, b'\n')
+    three_bits(buf, q, condition, t, f)
 }
 
 fn print_bit_to_byte(buf: &mut [u8], at: usize, d: ByteStorage, s: BitOperand) -> usize
-    ensures { λ r. ⌜ Put (now (buf .entry)) at (kind-line (InstructionKind.BitToByte d s)) (now (buf .exit)) r ⌝ }
+    ensures { λ r. ⌜ Put (now (buf .entry)) at (kind-text (InstructionKind.BitToByte d s)) (now (buf .exit)) r ⌝ }
 {
     let p = text::print_bytes(buf, at, b"i,bittobyte");
     let q = field_place(buf, p, d);
-    let t = field_bit(buf, q, s);
-    text::put(buf, t, b'\n')
+    field_bit(buf, q, s)
 }
 
 fn print_byte_to_bit(buf: &mut [u8], at: usize, d: StorageId, s: ByteOperand) -> usize
-    ensures { λ r. ⌜ Put (now (buf .entry)) at (kind-line (InstructionKind.ByteToBit d s)) (now (buf .exit)) r ⌝ }
+    ensures { λ r. ⌜ Put (now (buf .entry)) at (kind-text (InstructionKind.ByteToBit d s)) (now (buf .exit)) r ⌝ }
 {
     let p = text::print_bytes(buf, at, b"i,bytetobit");
     let q = field_number(buf, p, d.0);
-    let t = field_byte(buf, q, s);
-    text::put(buf, t, b'\n')
+    field_byte(buf, q, s)
 }
 
 fn print_sign_extend(buf: &mut [u8], at: usize, w: u64, d: Destinations, s: Bytes) -> usize
     requires { ⌜ Small s ⌝ }
-    ensures { λ r. ⌜ Put (now (buf .entry)) at (kind-line (InstructionKind.SignExtend w d s)) (now (buf .exit)) r ⌝ }
+    ensures { λ r. ⌜ Put (now (buf .entry)) at (kind-text (InstructionKind.SignExtend w d s)) (now (buf .exit)) r ⌝ }
 {
     let p = text::print_bytes(buf, at, b"i,sext");
     let q = field_number(buf, p, w);
     let t = field_destinations(buf, q, d);
-    let e = field_bytes(buf, t, s);
-    text::put(buf, e, b'\n')
+    field_bytes(buf, t, s)
 }
 
 fn print_unary(
@@ -718,12 +707,11 @@ fn print_unary(
     x: Bytes,
 ) -> usize
     requires { ⌜ Small x ⌝ }
-    ensures { λ r. ⌜ Put (now (buf .entry)) at (kind-line (InstructionKind.IntegerUnaryBytes op w d x)) (now (buf .exit)) r ⌝ }
+    ensures { λ r. ⌜ Put (now (buf .entry)) at (kind-text (InstructionKind.IntegerUnaryBytes op w d x)) (now (buf .exit)) r ⌝ }
 {
     let n = unary_number(op);
     let p = text::print_bytes(buf, at, b"i,unary");
-    let q = unary_fields(buf, p, n, w, d, x);
-    text::put(buf, q, b'\n')
+    unary_fields(buf, p, n, w, d, x)
 }
 
 fn print_binary(
@@ -736,22 +724,20 @@ fn print_binary(
     y: Bytes,
 ) -> usize
     requires { ⌜ (Small x) × (Small y) ⌝ }
-    ensures { λ r. ⌜ Put (now (buf .entry)) at (kind-line (InstructionKind.IntegerBinaryBytes op w d x y)) (now (buf .exit)) r ⌝ }
+    ensures { λ r. ⌜ Put (now (buf .entry)) at (kind-text (InstructionKind.IntegerBinaryBytes op w d x y)) (now (buf .exit)) r ⌝ }
 {
     let n = binary_number(op);
     let p = text::print_bytes(buf, at, b"i,binary");
-    let q = binary_fields(buf, p, n, w, d, x, y);
-    text::put(buf, q, b'\n')
+    binary_fields(buf, p, n, w, d, x, y)
 }
 
 // ---------------------------------------------------------------- lines of the listing
 
-// An instruction's line.
-pub fn print_instruction(buf: &mut [u8], at: usize, i: Instruction) -> usize
-    requires { ⌜ Sound (i .kind) ⌝ }
-    ensures { λ r. ⌜ Put (now (buf .entry)) at (instruction-line (instruction-of i)) (now (buf .exit)) r ⌝ }
+// An instruction's line up to its node.
+fn print_kind(buf: &mut [u8], at: usize, k: InstructionKind) -> usize
+    requires { ⌜ Sound k ⌝ }
+    ensures { λ r. ⌜ Put (now (buf .entry)) at (kind-text k) (now (buf .exit)) r ⌝ }
 {
-    let k = i.kind;
     match k {
         InstructionKind::CopyByte(d, s) => print_copy(buf, at, d, s),
         InstructionKind::NotByte(d, s) => print_not(buf, at, d, s),
@@ -773,6 +759,25 @@ pub fn print_instruction(buf: &mut [u8], at: usize, i: Instruction) -> usize
             print_binary(buf, at, op, w, d, x, y)
         }
     }
+}
+
+// The node whose own step made an instruction, and the end of its line.
+pub fn print_node(buf: &mut [u8], at: usize, node: NodeId) -> usize
+    ensures { λ r. ⌜ Put (now (buf .entry)) at (node-text (node .0)) (now (buf .exit)) r ⌝ }
+{
+    let p = field_number(buf, at, node.0);
+    text::put(buf, p, b'\n')
+}
+
+// An instruction's line.
+pub fn print_instruction(buf: &mut [u8], at: usize, i: Instruction) -> usize
+    requires { ⌜ Sound (i .kind) ⌝ }
+    ensures { λ r. ⌜ Put (now (buf .entry)) at (instruction-line (instruction-of i)) (now (buf .exit)) r ⌝ }
+{
+    let k = i.kind;
+    let node = i.node;
+    let p = print_kind(buf, at, k);
+    print_node(buf, p, node)
 }
 
 // A storage's ID, KIND and LENGTH.

@@ -20,6 +20,7 @@ use Rattle.reads.specs.Reading.{at-of, size-of, weight-of}
 use Rattle.lowering.specs.declared.Form.{Form}
 use Rattle.lowering.specs.declared.Node.{Node}
 use Rattle.lowering.specs.Forms.{form-of, lower-one, lower-two, lower-choice, lower-gathered, lower-form, form-sum, Found}
+use Rattle.lowering.specs.Nodes.{with-node}
 use Rattle.lowering.specs.Rooms.{TreeRoom, FormRoom}
 
 module _ (T : Tables) (lists : List ℕ) (d : ℕ) (h : At) where
@@ -83,11 +84,13 @@ module _ {T : Tables} {lists : List ℕ} {k : ℕ} {n : Node} (f : Found T lists
       ∙ sym (ap (λ (x : Form). form-sum T g lists (d - 1) (n .at .ty) x) (f .form))
 
   -- the room of its tree is that of its form
-  pub found-room : {s : State} {stack : List ℕ} (g : Form) → n .form ≡ g → TreeRoom T (exprAt d T k) s stack → FormRoom T lists (d - 1) (n .at .ty) g s stack
+  pub found-room : {s : State} {stack : List ℕ} (g : Form) → n .form ≡ g → TreeRoom T (exprAt d T k) s stack → FormRoom T lists (d - 1) (n .at .node .0) (n .at .ty) g (with-node s (n .at .node)) stack
   found-room {s} {stack} g q r =
       let at : (x : ℕ → ℕ) → node-sum x (exprAt d T k) ≡ form-sum T x lists (d - 1) (n .at .ty) g = λ x. found-sums x ∙ ap (λ (y : Form). form-sum T x lists (d - 1) (n .at .ty) y) q in
+      let room : Room (form-sum T (λ ty. 2 * size-of T ty + 2) lists (d - 1) (n .at .ty) g + 4096) (s .counters) = subst (λ (m : ℕ). Room (m + 4096) (s .counters)) (at (λ ty. 2 * size-of T ty + 2)) (r .room) in
       record {
-        room = subst (λ (m : ℕ). Room (m + 4096) (s .counters)) (at (λ ty. 2 * size-of T ty + 2)) (r .room);
+        node = refl;
+        room = record { instructions = room .instructions; storage = room .storage; temporary = room .temporary };
         top = subst (λ (m : ℕ). s .top + 8 * m ≤ length stack + 8) (at (weight-of T)) (r .top);
       }
 

@@ -4,3 +4,4 @@ pub mod RoomLaws
 pub mod StepLaws
 pub mod CycleLaws
 pub mod ListLaws
+pub mod NodeLaws

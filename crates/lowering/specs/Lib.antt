@@ -1,3 +1,4 @@
 pub mod Forms
 pub mod Rooms
 pub mod Behind
+pub mod Nodes

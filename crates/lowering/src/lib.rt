@@ -1,7 +1,8 @@
 // `lower_expression` over numbered node lines: a node's operands first, and then its own step over what they left. An aggregate's parts
 // stand on the lent stack; a step is given the state before its operands, whose top its own value goes by.
+use emission::Counters;
+use lir::NodeId;
 use reads::At;
-use reads::NodeId;
 use tables::Counts;
 use tables::NodeKind;
 use values::BitLowered;
@@ -23,6 +24,7 @@ ghost use Rattle.lowering.specs.declared.OneStep.{OneStep as one};
 ghost use Rattle.lowering.specs.Forms.{form-of, leaf-of, kids, lower-form, Found};
 ghost use Rattle.lowering.specs.Rooms.{TreeRoom, ListRoom, FormRoom, OneReady, TwoReady};
 ghost use Rattle.lowering.specs.Behind.{BehindOne, BehindTwo};
+ghost use Rattle.lowering.specs.Nodes.{with-node, restored-of};
 
 // A node without operands that are lowered.
 pub enum Leaf {
@@ -111,7 +113,7 @@ fn find_node(nodes: &[u64], lists: &[u64], counts: Counts, k: u64) -> Node
 
 // Floats have no bytes, and nothing is done with them.
 fn lower_leaf(rows: &[u64], nodes: &[u64], lists: &[u64], counts: Counts, code: &mut [u8], store: &mut [u8], narrowed: &mut [u64], stack: &mut [u64], s: State, leaf: Leaf, depth: u64, h: At) -> Lowered
-    requires { ⌜ (Readable (tables-of (now rows) (now nodes) (now lists) counts)) × (StepRoom (tables-of (now rows) (now nodes) (now lists) counts) (h .ty) s (now stack)) ⌝ }
+    requires { ⌜ (Readable (tables-of (now rows) (now nodes) (now lists) counts)) × (StepRoom (tables-of (now rows) (now nodes) (now lists) counts) (h .node .0) (h .ty) s (now stack)) ⌝ }
     ensures { λ r. ⌜ MeetsValue (bufs (now (code .entry)) (now (store .entry)) (now (narrowed .entry)) (now (stack .entry))) s (leaf-of (tables-of (now (rows .entry)) (now (nodes .entry)) (now (lists .entry)) counts) depth (at-of h) leaf nowhere (counters-in s)) (bufs (now (code .exit)) (now (store .exit)) (now (narrowed .exit)) (now (stack .exit))) r ⌝ }
 {
     match leaf {
@@ -129,7 +131,7 @@ fn lower_leaf(rows: &[u64], nodes: &[u64], lists: &[u64], counts: Counts, code: 
 
 // Reinterpret alone keeps an aggregate's parts.
 fn convert(rows: &[u64], nodes: &[u64], lists: &[u64], counts: Counts, code: &mut [u8], store: &mut [u8], stack: &mut [u64], s: State, s1: State, op: u64, v: Value, h: At) -> Lowered
-    requires { ⌜ (Readable (tables-of (now rows) (now nodes) (now lists) counts)) × (OneReady (tables-of (now rows) (now nodes) (now lists) counts) (h .ty) s s1 v (now stack)) ⌝ }
+    requires { ⌜ (Readable (tables-of (now rows) (now nodes) (now lists) counts)) × (OneReady (tables-of (now rows) (now nodes) (now lists) counts) (h .node .0) (h .ty) s s1 v (now stack)) ⌝ }
     ensures { λ r. ⌜ ((n : List ℕ) → BehindOne (tables-of (now (rows .entry)) (now (nodes .entry)) (now (lists .entry)) counts) (at-of h) (one.Convert op) s s1 v (bufs (now (code .entry)) (now (store .entry)) n (now (stack .entry))) (bufs (now (code .exit)) (now (store .exit)) n (now (stack .exit))) r) ⌝ }
 {
     if conversions::is_reinterpret(op) {
@@ -140,7 +142,7 @@ fn convert(rows: &[u64], nodes: &[u64], lists: &[u64], counts: Counts, code: &mu
 
 // A node's own step over the value v, whose parts stand between the tops of s and s1.
 fn one_step(rows: &[u64], nodes: &[u64], lists: &[u64], counts: Counts, code: &mut [u8], store: &mut [u8], stack: &mut [u64], s: State, s1: State, step: OneStep, v: Value, h: At) -> Lowered
-    requires { ⌜ (Readable (tables-of (now rows) (now nodes) (now lists) counts)) × (OneReady (tables-of (now rows) (now nodes) (now lists) counts) (h .ty) s s1 v (now stack)) ⌝ }
+    requires { ⌜ (Readable (tables-of (now rows) (now nodes) (now lists) counts)) × (OneReady (tables-of (now rows) (now nodes) (now lists) counts) (h .node .0) (h .ty) s s1 v (now stack)) ⌝ }
     ensures { λ r. ⌜ ((n : List ℕ) → BehindOne (tables-of (now (rows .entry)) (now (nodes .entry)) (now (lists .entry)) counts) (at-of h) step s s1 v (bufs (now (code .entry)) (now (store .entry)) n (now (stack .entry))) (bufs (now (code .exit)) (now (store .exit)) n (now (stack .exit))) r) ⌝ }
 {
     let before = values::at_top(s1, s.top);
@@ -153,7 +155,7 @@ fn one_step(rows: &[u64], nodes: &[u64], lists: &[u64], counts: Counts, code: &m
 
 // Over two: the parts of l stand between the tops of s and s1, those of r between s1 and s2.
 fn two_step(rows: &[u64], nodes: &[u64], lists: &[u64], counts: Counts, code: &mut [u8], store: &mut [u8], stack: &mut [u64], s: State, s1: State, s2: State, step: TwoStep, l: Value, r: Value, h: At) -> Lowered
-    requires { ⌜ (Readable (tables-of (now rows) (now nodes) (now lists) counts)) × (TwoReady (tables-of (now rows) (now nodes) (now lists) counts) (h .ty) s s1 s2 l r (now stack)) ⌝ }
+    requires { ⌜ (Readable (tables-of (now rows) (now nodes) (now lists) counts)) × (TwoReady (tables-of (now rows) (now nodes) (now lists) counts) (h .node .0) (h .ty) s s1 s2 l r (now stack)) ⌝ }
     ensures { λ res. ⌜ ((n : List ℕ) → BehindTwo (tables-of (now (rows .entry)) (now (nodes .entry)) (now (lists .entry)) counts) (at-of h) step s s1 s2 l r (bufs (now (code .entry)) (now (store .entry)) n (now (stack .entry))) (bufs (now (code .exit)) (now (store .exit)) n (now (stack .exit))) res) ⌝ }
 {
     let before = values::at_top(s2, s.top);
@@ -167,6 +169,34 @@ fn two_step(rows: &[u64], nodes: &[u64], lists: &[u64], counts: Counts, code: &m
 
 // ---------------------------------------------------------------- the cycle
 
+// The state in a step of another node.
+fn with_node(s: State, node: NodeId) -> State
+    ensures { λ r. ⌜ r ≡ with-node s node ⌝ }
+{
+    let c = s.counters;
+    State {
+        counters: Counters {
+            at: c.at,
+            instructions: c.instructions,
+            stored: c.stored,
+            storage: c.storage,
+            temporary: c.temporary,
+            node,
+        },
+        top: s.top,
+    }
+}
+
+// What a node has left, in a step of the node that it is a part of.
+fn restored(r: Lowered, node: NodeId) -> Lowered
+    ensures { λ res. ⌜ res ≡ restored-of r node ⌝ }
+{
+    match r {
+        Lowered::Refused(n, l) => Lowered::Refused(n, l),
+        Lowered::Done(v, s) => Lowered::Done(v, with_node(s, node)),
+    }
+}
+
 // The node of line k, its tree as deep as `depth`.
 pub fn lower_expression(rows: &[u64], nodes: &[u64], lists: &[u64], counts: Counts, code: &mut [u8], store: &mut [u8], narrowed: &mut [u64], stack: &mut [u64], s: State, k: u64, depth: u64) -> Lowered
     requires { ⌜ (Readable (tables-of (now rows) (now nodes) (now lists) counts)) × (TreeRoom (tables-of (now rows) (now nodes) (now lists) counts) (exprAt depth (tables-of (now rows) (now nodes) (now lists) counts) k) s (now stack)) ⌝ }
@@ -178,17 +208,21 @@ pub fn lower_expression(rows: &[u64], nodes: &[u64], lists: &[u64], counts: Coun
     let node = find_node(nodes, lists, counts, k);
     let h = node.at;
     let form = node.form;
+    let outer = s.counters;
+    let before = outer.node;
+    let n = h.node;
+    let own = with_node(s, n);
     match form {
-        Form::Leaf(leaf) => lower_leaf(rows, nodes, lists, counts, code, store, narrowed, stack, s, leaf, depth - 1, h),
-        Form::One(step, e) => lower_one(rows, nodes, lists, counts, code, store, narrowed, stack, s, step, e, depth - 1, h),
-        Form::Two(step, l, r) => lower_two(rows, nodes, lists, counts, code, store, narrowed, stack, s, step, l, r, depth - 1, h),
-        Form::Select(t, f, c) => lower_select(rows, nodes, lists, counts, code, store, narrowed, stack, s, t, f, c, depth - 1, h),
-        Form::Aggregate(a, n) => lower_aggregate(rows, nodes, lists, counts, code, store, narrowed, stack, s, a, n, depth - 1, h),
+        Form::Leaf(leaf) => restored(lower_leaf(rows, nodes, lists, counts, code, store, narrowed, stack, own, leaf, depth - 1, h), before),
+        Form::One(step, e) => restored(lower_one(rows, nodes, lists, counts, code, store, narrowed, stack, own, step, e, depth - 1, h), before),
+        Form::Two(step, l, r) => restored(lower_two(rows, nodes, lists, counts, code, store, narrowed, stack, own, step, l, r, depth - 1, h), before),
+        Form::Select(t, f, c) => restored(lower_select(rows, nodes, lists, counts, code, store, narrowed, stack, own, t, f, c, depth - 1, h), before),
+        Form::Aggregate(a, n) => restored(lower_aggregate(rows, nodes, lists, counts, code, store, narrowed, stack, own, a, n, depth - 1, h), before),
     }
 }
 
 fn lower_one(rows: &[u64], nodes: &[u64], lists: &[u64], counts: Counts, code: &mut [u8], store: &mut [u8], narrowed: &mut [u64], stack: &mut [u64], s: State, step: OneStep, e: u64, depth: u64, h: At) -> Lowered
-    requires { ⌜ (Readable (tables-of (now rows) (now nodes) (now lists) counts)) × (FormRoom (tables-of (now rows) (now nodes) (now lists) counts) (now lists) depth (h .ty) (form.One step e) s (now stack)) ⌝ }
+    requires { ⌜ (Readable (tables-of (now rows) (now nodes) (now lists) counts)) × (FormRoom (tables-of (now rows) (now nodes) (now lists) counts) (now lists) depth (h .node .0) (h .ty) (form.One step e) s (now stack)) ⌝ }
     ensures { λ r. ⌜ MeetsValue (bufs (now (code .entry)) (now (store .entry)) (now (narrowed .entry)) (now (stack .entry))) s (lower-form (tables-of (now (rows .entry)) (now (nodes .entry)) (now (lists .entry)) counts) (now (lists .entry)) depth (at-of h) (form.One step e) nowhere (counters-in s)) (bufs (now (code .exit)) (now (store .exit)) (now (narrowed .exit)) (now (stack .exit))) r ⌝ }
 {
     match lower_expression(rows, nodes, lists, counts, code, store, narrowed, stack, s, e, depth) {
@@ -198,7 +232,7 @@ fn lower_one(rows: &[u64], nodes: &[u64], lists: &[u64], counts: Counts, code: &
 }
 
 fn lower_two(rows: &[u64], nodes: &[u64], lists: &[u64], counts: Counts, code: &mut [u8], store: &mut [u8], narrowed: &mut [u64], stack: &mut [u64], s: State, step: TwoStep, l: u64, r: u64, depth: u64, h: At) -> Lowered
-    requires { ⌜ (Readable (tables-of (now rows) (now nodes) (now lists) counts)) × (FormRoom (tables-of (now rows) (now nodes) (now lists) counts) (now lists) depth (h .ty) (form.Two step l r) s (now stack)) ⌝ }
+    requires { ⌜ (Readable (tables-of (now rows) (now nodes) (now lists) counts)) × (FormRoom (tables-of (now rows) (now nodes) (now lists) counts) (now lists) depth (h .node .0) (h .ty) (form.Two step l r) s (now stack)) ⌝ }
     ensures { λ res. ⌜ MeetsValue (bufs (now (code .entry)) (now (store .entry)) (now (narrowed .entry)) (now (stack .entry))) s (lower-form (tables-of (now (rows .entry)) (now (nodes .entry)) (now (lists .entry)) counts) (now (lists .entry)) depth (at-of h) (form.Two step l r) nowhere (counters-in s)) (bufs (now (code .exit)) (now (store .exit)) (now (narrowed .exit)) (now (stack .exit))) res ⌝ }
 {
     match lower_expression(rows, nodes, lists, counts, code, store, narrowed, stack, s, l, depth) {
@@ -212,7 +246,7 @@ fn lower_two(rows: &[u64], nodes: &[u64], lists: &[u64], counts: Counts, code: &
 
 // Both arms are lowered, and then the condition.
 fn lower_select(rows: &[u64], nodes: &[u64], lists: &[u64], counts: Counts, code: &mut [u8], store: &mut [u8], narrowed: &mut [u64], stack: &mut [u64], s: State, t: u64, f: u64, c: u64, depth: u64, h: At) -> Lowered
-    requires { ⌜ (Readable (tables-of (now rows) (now nodes) (now lists) counts)) × (FormRoom (tables-of (now rows) (now nodes) (now lists) counts) (now lists) depth (h .ty) (form.Select t f c) s (now stack)) ⌝ }
+    requires { ⌜ (Readable (tables-of (now rows) (now nodes) (now lists) counts)) × (FormRoom (tables-of (now rows) (now nodes) (now lists) counts) (now lists) depth (h .node .0) (h .ty) (form.Select t f c) s (now stack)) ⌝ }
     ensures { λ r. ⌜ MeetsValue (bufs (now (code .entry)) (now (store .entry)) (now (narrowed .entry)) (now (stack .entry))) s (lower-form (tables-of (now (rows .entry)) (now (nodes .entry)) (now (lists .entry)) counts) (now (lists .entry)) depth (at-of h) (form.Select t f c) nowhere (counters-in s)) (bufs (now (code .exit)) (now (store .exit)) (now (narrowed .exit)) (now (stack .exit))) r ⌝ }
 {
     match lower_expression(rows, nodes, lists, counts, code, store, narrowed, stack, s, t, depth) {
@@ -228,7 +262,7 @@ fn lower_select(rows: &[u64], nodes: &[u64], lists: &[u64], counts: Counts, code
 }
 
 fn lower_aggregate(rows: &[u64], nodes: &[u64], lists: &[u64], counts: Counts, code: &mut [u8], store: &mut [u8], narrowed: &mut [u64], stack: &mut [u64], s: State, a: u64, n: u64, depth: u64, h: At) -> Lowered
-    requires { ⌜ (Readable (tables-of (now rows) (now nodes) (now lists) counts)) × (FormRoom (tables-of (now rows) (now nodes) (now lists) counts) (now lists) depth (h .ty) (form.Aggregate a n) s (now stack)) ⌝ }
+    requires { ⌜ (Readable (tables-of (now rows) (now nodes) (now lists) counts)) × (FormRoom (tables-of (now rows) (now nodes) (now lists) counts) (now lists) depth (h .node .0) (h .ty) (form.Aggregate a n) s (now stack)) ⌝ }
     ensures { λ r. ⌜ MeetsValue (bufs (now (code .entry)) (now (store .entry)) (now (narrowed .entry)) (now (stack .entry))) s (lower-form (tables-of (now (rows .entry)) (now (nodes .entry)) (now (lists .entry)) counts) (now (lists .entry)) depth (at-of h) (form.Aggregate a n) nowhere (counters-in s)) (bufs (now (code .exit)) (now (store .exit)) (now (narrowed .exit)) (now (stack .exit))) r ⌝ }
 {
     let listed = lower_list(rows, nodes, lists, counts, code, store, narrowed, stack, s, a, 0, n, depth);
@@ -264,7 +298,7 @@ fn lower_list(rows: &[u64], nodes: &[u64], lists: &[u64], counts: Counts, code: 
 
 // A node's value as a bit, by the own step of the node h.
 fn expression_as_bit(rows: &[u64], nodes: &[u64], lists: &[u64], counts: Counts, code: &mut [u8], store: &mut [u8], narrowed: &mut [u64], stack: &mut [u64], s: State, k: u64, depth: u64, h: At) -> BitLowered
-    requires { ⌜ (Readable (tables-of (now rows) (now nodes) (now lists) counts)) × (TreeRoom (tables-of (now rows) (now nodes) (now lists) counts) (exprAt depth (tables-of (now rows) (now nodes) (now lists) counts) k) s (now stack)) ⌝ }
+    requires { ⌜ (Readable (tables-of (now rows) (now nodes) (now lists) counts)) × (TreeRoom (tables-of (now rows) (now nodes) (now lists) counts) (exprAt depth (tables-of (now rows) (now nodes) (now lists) counts) k) s (now stack)) × (h .node .0 ≡ s .counters .node .0) ⌝ }
     ensures { λ r. ⌜ MeetsBit (bufs (now (code .entry)) (now (store .entry)) (now (narrowed .entry)) (now (stack .entry))) s (expression-as-bit (tables-of (now (rows .entry)) (now (nodes .entry)) (now (lists .entry)) counts) (at-of h) (exprAt depth (tables-of (now (rows .entry)) (now (nodes .entry)) (now (lists .entry)) counts) k) nowhere (counters-in s)) (bufs (now (code .exit)) (now (store .exit)) (now (narrowed .exit)) (now (stack .exit))) r ⌝ }
 {
     match lower_expression(rows, nodes, lists, counts, code, store, narrowed, stack, s, k, depth) {

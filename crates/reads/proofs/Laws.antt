@@ -16,6 +16,7 @@ use Rattle.lir.specs.Abstract.{tab, byte-at, bytes-of}
 use Rattle.lir.specs.declared.BitOperand.{BitOperand as Bit}
 use Rattle.lir.specs.declared.Source.{Source}
 use Rattle.lir.specs.declared.StorageId.{StorageId}
+use Rattle.lir.specs.declared.NodeId.{NodeId}
 use Rattle.emission.specs.declared.Counters.{Counters}
 use Rattle.emission.specs.Appends.{Room, room-less, room-after}
 use Rattle.emission.specs.Emits.{Allocates, Emits, allocated-emitted}
@@ -60,19 +61,19 @@ plain-meets T storage ty o size h e k g q =
     (ap (λ (z : List ByteOperand). record { ty = ty; shape = bytes-shape z }) (plain-bytes storage o size)) (record { reach-most = k; total-most = omega arith }) refl q)
 
 -- a bit, and the instruction that fills it
-pub bool-meets : {code store code′ store′ : List ℕ} {s : State} {c1 c2 : Counters} (T : Tables) (storage ty o : ℕ) (new : StorageId) (h : hir.At) (n stack : List ℕ)
+pub bool-meets : {code store code′ store′ : List ℕ} {s : State} {c1 c2 : Counters} (T : Tables) (storage ty o : ℕ) (new : StorageId) (h : hir.At) (n stack : List ℕ) → h .node ≡ s .counters .node .0
     → Allocates store (s .counters) (allocate-bit-temporary read-bool) (new .0) store′ c1
     → Emits code c1 (byte-to-bit (new .0) (stored (record { storage = storage; offset = o })) ∷ []) code′ c2
     → MeetsValue (bufs code store n stack) s (read-bool-byte T storage ty o h (counters-in s)) (bufs code′ store′ n stack) (Lowered.Done (record { ty = ty; repr = Rep.Bit (Bit.Storage new) }) (record { counters = c2; top = s .top }))
 unfolding read-bool-byte _>>=_ _>>_ values-words marked
-bool-meets {code} {store} {code′} {store′} {s} {c1} {c2} T storage ty o new h n stack a b =
+bool-meets {code} {store} {code′} {store′} {s} {c1} {c2} T storage ty o new h n stack e a b =
     rw (a .is h)
     (record {
       shown = (
         refl,
         tt,
         record {
-          appends = allocated-emitted a b h;
+          appends = allocated-emitted a b h e;
           numbers = rw (b .storage, b .temporary);
           narrows = refl;
           parts = [];
@@ -109,25 +110,26 @@ none-meets {b} {s} t e g = record { shown = (sym e, left-none b s g) }
 -- ---------------------------------------------------------------- room
 
 -- the parts of a type
-pub room-parts : {T : Tables} {ty o : ℕ} {s : State} {stack ts : List ℕ} → size-of T ty ≡ sum (size-of T) ts → weight-of T ty ≡ 1 + sum (weight-of T) ts
-    → TypeRoom T ty o s stack → PartsRoom T ts o s stack
-room-parts e g r = record { room = room-less (omega arith) (r .room); top = omega (arith, r .top); reach = omega (arith, r .reach) }
+pub room-parts : {T : Tables} {n ty o : ℕ} {s : State} {stack ts : List ℕ} → size-of T ty ≡ sum (size-of T) ts → weight-of T ty ≡ 1 + sum (weight-of T) ts
+    → TypeRoom T n ty o s stack → PartsRoom T n ts o s stack
+room-parts e g r = record { node = r .node; room = room-less (omega arith) (r .room); top = omega (arith, r .top); reach = omega (arith, r .reach) }
 
 -- a first part of a type, above its head
-pub room-first : {T : Tables} {ts : List ℕ} {o : ℕ} {s : State} {stack : List ℕ} (ty k w : ℕ) → sum (size-of T) ts ≡ size-of T ty + k → sum (weight-of T) ts ≡ weight-of T ty + w
-    → PartsRoom T ts o s stack → TypeRoom T ty o (at-top s (s .top + 8)) stack
-room-first ty k w e g r = record { room = room-less (omega arith) (r .room); top = omega (arith, r .top); reach = omega (arith, r .reach) }
+pub room-first : {T : Tables} {n : ℕ} {ts : List ℕ} {o : ℕ} {s : State} {stack : List ℕ} (ty k w : ℕ) → sum (size-of T) ts ≡ size-of T ty + k → sum (weight-of T) ts ≡ weight-of T ty + w
+    → PartsRoom T n ts o s stack → TypeRoom T n ty o (at-top s (s .top + 8)) stack
+room-first ty k w e g r = record { node = r .node; room = room-less (omega arith) (r .room); top = omega (arith, r .top); reach = omega (arith, r .reach) }
 
 -- the parts behind it
-pub room-rest : {T : Tables} {ts us : List ℕ} {o : ℕ} {b : Bufs} {s : State} {x : Outcome Value} {b1 : Bufs} {v : Val} {s1 : State} {stack1 : List ℕ} (ty : ℕ)
+pub room-rest : {T : Tables} {n : ℕ} {ts us : List ℕ} {o : ℕ} {b : Bufs} {s : State} {x : Outcome Value} {b1 : Bufs} {v : Val} {s1 : State} {stack1 : List ℕ} (ty : ℕ)
     → sum (size-of T) ts ≡ size-of T ty + sum (size-of T) us → sum (weight-of T) ts ≡ weight-of T ty + sum (weight-of T) us
-    → PartsRoom T ts o s (b .stack) → (d : DoneValue b (at-top s (s .top + 8)) x b1 v s1) → Few (size-of T ty) (weight-of T ty) x → length stack1 ≡ length (b1 .stack)
-    → PartsRoom T us (o + size-of T ty) s1 stack1
-room-rest {T} {ts} {us} {o} {b} {s} ty e g r d f l =
+    → PartsRoom T n ts o s (b .stack) → (d : DoneValue b (at-top s (s .top + 8)) x b1 v s1) → Few (size-of T ty) (weight-of T ty) x → length stack1 ≡ length (b1 .stack)
+    → PartsRoom T n us (o + size-of T ty) s1 stack1
+room-rest {T} {n} {ts} {us} {o} {b} {s} ty e g r d f l =
     let w = few-done f (d .is) in
     let y = d .left in
     let p : length (y .parts) ≡ length (parts-of (d .v)) = sym (length-heads (y .parts)) ∙ ap length (y .shows) in
     record {
+      node = r .node ∙ sym (ap (λ (z : NodeId). z .0) (y .appends .node));
       room = room-after (sum (size-of T) us + 1) (omega (arith, w .0)) (omega (arith, w .1)) (r .room) (y .appends);
       top = omega (arith, r .top, w .2, y .topped, y .long);
       reach = omega (arith, r .reach);

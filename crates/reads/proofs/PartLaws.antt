@@ -57,7 +57,7 @@ all-read T lists d storage ps h i n o s = read-fields T (λ t p. read-bytes-as-t
 -- of the n parts from i on, begun at byte o, the m from j on are left, at byte p: what these leave, the whole leaves
 pub record Rest (rows nodes lists : List ℕ) (c : Counts) (d storage : ℕ) (ps : Parts) (h : hir.At) (i n o : ℕ) (code₀ store₀ stack₀ : List ℕ) (s : State)
     (j m p : ℕ) (code store stack : List ℕ) (t : State) : Type 0 where
-  pub room : PartsRoom (tables-of rows nodes lists c) (part-types lists ps j m) p t stack
+  pub room : PartsRoom (tables-of rows nodes lists c) (h .node) (part-types lists ps j m) p t stack
   pub few : j + m ≤ 4294967296
   pub placed : Placed (bufs code store code stack) t
   pub code-long : length code ≡ length code₀
@@ -68,7 +68,7 @@ pub record Rest (rows nodes lists : List ℕ) (c : Counts) (d storage : ℕ) (ps
 
 module _ {rows nodes lists : List ℕ} {c : Counts} {d storage : ℕ} {ps : Parts} {h : hir.At} {i n o : ℕ} {code₀ store₀ stack₀ : List ℕ} {s : State} where
   -- before the first part
-  pub rest-all : PartsRoom (tables-of rows nodes lists c) (part-types lists ps i n) o s stack₀ → i + n ≤ 4294967296 → Placed (bufs code₀ store₀ code₀ stack₀) s
+  pub rest-all : PartsRoom (tables-of rows nodes lists c) (h .node) (part-types lists ps i n) o s stack₀ → i + n ≤ 4294967296 → Placed (bufs code₀ store₀ code₀ stack₀) s
       → Rest rows nodes lists c d storage ps h i n o code₀ store₀ stack₀ s i n o code₀ store₀ stack₀ s
   rest-all q f p = record { room = q; few = f; placed = p; code-long = refl; store-long = refl; stack-long = refl; whole = λ l x. x }
 
@@ -87,7 +87,7 @@ module _ {rows nodes lists : List ℕ} {c : Counts} {d storage : ℕ} {ps : Part
           omega (arith, sum-here rows nodes lists c (weight-of T) ps j m k, weight-least T R (part-type lists ps j), g .room .top)
 
       -- and the part its room
-      pub rest-first : TypeRoom (tables-of rows nodes lists c) (part-type lists ps j) p (at-top t (t .top + 8)) stack
+      pub rest-first : TypeRoom (tables-of rows nodes lists c) (h .node) (part-type lists ps j) p (at-top t (t .top + 8)) stack
       rest-first =
           let T = tables-of rows nodes lists c in
           room-first (part-type lists ps j) _ _ (sum-here rows nodes lists c (size-of T) ps j m k) (sum-here rows nodes lists c (weight-of T) ps j m k) (g .room)
@@ -119,7 +119,7 @@ module _ {rows nodes lists : List ℕ} {c : Counts} {d storage : ℕ} {ps : Part
           let es = sum-here rows nodes lists c (size-of T) ps j m k in
           let ew = sum-here rows nodes lists c (weight-of T) ps j m k in
           let sz = size-at-of rows nodes lists c ty in
-          let next : PartsRoom T (part-types lists ps (j + 1) (m - 1)) (p + size-of T ty) t1 (sets stack1 (t .top) (value-words x)) = room-rest ty es ew (g .room) u (few-read T R d storage ty p h (counters-in t)) ll in
+          let next : PartsRoom T (h .node) (part-types lists ps (j + 1) (m - 1)) (p + size-of T ty) t1 (sets stack1 (t .top) (value-words x)) = room-rest ty es ew (g .room) u (few-read T R d storage ty p h (counters-in t)) ll in
           rw (e, ez) (record {
             room = rw sz at next;
             few = omega (arith, g .few, k);

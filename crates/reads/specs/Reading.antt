@@ -1,4 +1,5 @@
 -- How each type is read, the room that reading wants, and the values of the steps that go by numbers alone.
+use mathlib.Core.Path.{_≡_}
 use mathlib.Core.List.{List}
 use Prim.Native.Nat.{ℕ, _+_, _-_, _*_, _/_, _≤_}
 use lib.ListN.{length, getD}
@@ -77,20 +78,23 @@ LeafRoom Leaf.Bool s = Room 2 (s .counters)
 LeafRoom Leaf.Plain s = Unit {0}
 LeafRoom Leaf.Refused s = Unit {0}
 
--- to read a type from byte o on: a storage and an instruction for each byte, with one to spare as the counters stand between the two,
+-- to read a type from byte o on in a step of node n: a storage and an instruction for each byte, with one to spare as the counters stand between the two,
 -- and a record for each value but the first
-pub record TypeRoom (T : Tables) (ty o : ℕ) (s : State) (stack : List ℕ) : Type 0 where
+pub record TypeRoom (T : Tables) (n ty o : ℕ) (s : State) (stack : List ℕ) : Type 0 where
+  pub node : n ≡ s .counters .node .0
   pub room : Room (size-of T ty + 1) (s .counters)
   pub top : s .top + 8 * weight-of T ty ≤ length stack + 8
   pub reach : o + size-of T ty ≤ 4294967296
 
--- for a node's own step at the type ty: more of each counter than any step uses, and the records of a value of that type but the first
-pub record StepRoom (T : Tables) (ty : ℕ) (s : State) (stack : List ℕ) : Type 0 where
+-- for node n's own step at the type ty: more of each counter than any step uses, and the records of a value of that type but the first
+pub record StepRoom (T : Tables) (n ty : ℕ) (s : State) (stack : List ℕ) : Type 0 where
+  pub node : n ≡ s .counters .node .0
   pub room : Room 4096 (s .counters)
   pub top : s .top + 8 * weight-of T ty ≤ length stack + 8
 
 -- to read parts of the types ts: a record for each value
-pub record PartsRoom (T : Tables) (ts : List ℕ) (o : ℕ) (s : State) (stack : List ℕ) : Type 0 where
+pub record PartsRoom (T : Tables) (n : ℕ) (ts : List ℕ) (o : ℕ) (s : State) (stack : List ℕ) : Type 0 where
+  pub node : n ≡ s .counters .node .0
   pub room : Room (sum (size-of T) ts + 1) (s .counters)
   pub top : s .top + 8 * sum (weight-of T) ts ≤ length stack
   pub reach : o + sum (size-of T) ts ≤ 4294967296

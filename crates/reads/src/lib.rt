@@ -7,6 +7,7 @@ use lir::Bytes;
 use lir::InstructionKind;
 use lir::Purpose;
 use lir::Source;
+use lir::NodeId;
 use lir::StorageId;
 use tables::Counts;
 use tables::TypeKind;
@@ -28,9 +29,6 @@ ghost use Rattle.emission.specs.Appends.{Room};
 ghost use Rattle.tables.specs.Tables.{type-kind-at, size-at, tables-of, Sized};
 ghost use Rattle.values.specs.Left.{bufs, counters-in, value-words, MeetsValue, MeetsList};
 ghost use Rattle.reads.specs.Reading.{at-of, reading-of, part-type, part-types, leaf-read, plain-of, gathered-of, LeafRoom, TypeRoom, PartsRoom};
-
-// A node's number.
-pub struct NodeId(pub u64);
 
 // The node whose own step it is.
 pub struct At {
@@ -129,7 +127,7 @@ fn read_plain(s: State, storage: StorageId, ty: u64, o: u64, size: u64) -> Lower
 // A byte that is a Bool, as a new bit.
 fn read_bool(code: &mut [u8], store: &mut [u8], s: State, storage: StorageId, ty: u64, o: u64) -> Lowered
     requires { ⌜ Room 2 (s .counters) ⌝ }
-    ensures { λ r. ⌜ ((T : Tables) (h : hir.At) (n stack : List ℕ) → MeetsValue (bufs (now (code .entry)) (now (store .entry)) n stack) s (read-bool-byte T (storage .0) ty o h (counters-in s)) (bufs (now (code .exit)) (now (store .exit)) n stack) r) ⌝ }
+    ensures { λ r. ⌜ ((T : Tables) (h : hir.At) (n stack : List ℕ) → h .node ≡ s .counters .node .0 → MeetsValue (bufs (now (code .entry)) (now (store .entry)) n stack) s (read-bool-byte T (storage .0) ty o h (counters-in s)) (bufs (now (code .exit)) (now (store .exit)) n stack) r) ⌝ }
 {
     let counters = s.counters;
     let new = emission::allocate_bit_temporary(store, counters, Purpose::ReadBool);
@@ -153,7 +151,7 @@ fn read_bool(code: &mut [u8], store: &mut [u8], s: State, storage: StorageId, ty
 // A type without parts; a float is refused.
 fn read_leaf(rows: &[u64], counts: Counts, code: &mut [u8], store: &mut [u8], s: State, storage: StorageId, ty: u64, o: u64, leaf: Leaf, h: At) -> Lowered
     requires { ⌜ (Sized counts) × (LeafRoom leaf s) × (o + size-at (now rows) counts ty ≤ 4294967296) ⌝ }
-    ensures { λ r. ⌜ ((T : Tables) (n stack : List ℕ) → type-size T ty ≡ size-at (now (rows .entry)) counts ty → MeetsValue (bufs (now (code .entry)) (now (store .entry)) n stack) s (leaf-read T (storage .0) ty o leaf (at-of h) (counters-in s)) (bufs (now (code .exit)) (now (store .exit)) n stack) r) ⌝ }
+    ensures { λ r. ⌜ ((T : Tables) (n stack : List ℕ) → type-size T ty ≡ size-at (now (rows .entry)) counts ty → h .node .0 ≡ s .counters .node .0 → MeetsValue (bufs (now (code .entry)) (now (store .entry)) n stack) s (leaf-read T (storage .0) ty o leaf (at-of h) (counters-in s)) (bufs (now (code .exit)) (now (store .exit)) n stack) r) ⌝ }
 {
     match leaf {
         Leaf::Unit => Lowered::Done(
@@ -208,7 +206,7 @@ pub fn store_head(stack: &mut [u64], at: usize, v: Value)
 
 // Storage `storage` read from byte o on as the type ty. Types refer to less deep ones; `depth` falls with each.
 pub fn read_bytes_as_type(rows: &[u64], nodes: &[u64], lists: &[u64], counts: Counts, code: &mut [u8], store: &mut [u8], stack: &mut [u64], s: State, storage: StorageId, ty: u64, o: u64, depth: u64, h: At) -> Lowered
-    requires { ⌜ (Readable (tables-of (now rows) (now nodes) (now lists) counts)) × (TypeRoom (tables-of (now rows) (now nodes) (now lists) counts) ty o s (now stack)) ⌝ }
+    requires { ⌜ (Readable (tables-of (now rows) (now nodes) (now lists) counts)) × (TypeRoom (tables-of (now rows) (now nodes) (now lists) counts) (h .node .0) ty o s (now stack)) ⌝ }
     ensures { λ r. ⌜ ((n : List ℕ) → MeetsValue (bufs (now (code .entry)) (now (store .entry)) n (now (stack .entry))) s (read-bytes-as-type (tables-of (now (rows .entry)) (now (nodes .entry)) (now (lists .entry)) counts) depth (storage .0) ty o (at-of h) (counters-in s)) (bufs (now (code .exit)) (now (store .exit)) n (now (stack .exit))) r) ⌝ }
 {
     if depth == 0 {
@@ -226,7 +224,7 @@ pub fn read_bytes_as_type(rows: &[u64], nodes: &[u64], lists: &[u64], counts: Co
 
 // n parts from part i on, each read behind the one before: elements of an array, or fields of a struct or a tuple.
 fn read_parts(rows: &[u64], nodes: &[u64], lists: &[u64], counts: Counts, code: &mut [u8], store: &mut [u8], stack: &mut [u64], s: State, storage: StorageId, parts: Parts, i: u64, n: u64, o: u64, depth: u64, h: At) -> Listed
-    requires { ⌜ (Readable (tables-of (now rows) (now nodes) (now lists) counts)) × (PartsRoom (tables-of (now rows) (now nodes) (now lists) counts) (part-types (now lists) parts i n) o s (now stack)) × (i + n ≤ 4294967296) ⌝ }
+    requires { ⌜ (Readable (tables-of (now rows) (now nodes) (now lists) counts)) × (PartsRoom (tables-of (now rows) (now nodes) (now lists) counts) (h .node .0) (part-types (now lists) parts i n) o s (now stack)) × (i + n ≤ 4294967296) ⌝ }
     ensures { λ r. ⌜ ((m : List ℕ) → MeetsList n (bufs (now (code .entry)) (now (store .entry)) m (now (stack .entry))) s (read-fields (tables-of (now (rows .entry)) (now (nodes .entry)) (now (lists .entry)) counts) (λ t p. read-bytes-as-type (tables-of (now (rows .entry)) (now (nodes .entry)) (now (lists .entry)) counts) depth (storage .0) t p) o (part-types (now (lists .entry)) parts i n) (at-of h) (counters-in s)) (bufs (now (code .exit)) (now (store .exit)) m (now (stack .exit))) r) ⌝ }
 {
     // m parts are left, from part j on, at byte p.
@@ -255,7 +253,7 @@ fn read_parts(rows: &[u64], nodes: &[u64], lists: &[u64], counts: Counts, code: 
 
 // A location's value: a bit, or the bytes that stand there.
 pub fn read_location(rows: &[u64], nodes: &[u64], lists: &[u64], counts: Counts, code: &mut [u8], store: &mut [u8], stack: &mut [u64], s: State, storage: StorageId, offset: u64, ty: u64, bit: bool, h: At) -> Lowered
-    requires { ⌜ (Readable (tables-of (now rows) (now nodes) (now lists) counts)) × (TypeRoom (tables-of (now rows) (now nodes) (now lists) counts) ty offset s (now stack)) ⌝ }
+    requires { ⌜ (Readable (tables-of (now rows) (now nodes) (now lists) counts)) × (TypeRoom (tables-of (now rows) (now nodes) (now lists) counts) (h .node .0) ty offset s (now stack)) ⌝ }
     ensures { λ r. ⌜ ((n : List ℕ) → MeetsValue (bufs (now (code .entry)) (now (store .entry)) n (now (stack .entry))) s (read-location (tables-of (now (rows .entry)) (now (nodes .entry)) (now (lists .entry)) counts) (record { storage = storage .0; offset = offset; ty = ty; is-bit = bit }) (at-of h) (counters-in s)) (bufs (now (code .exit)) (now (store .exit)) n (now (stack .exit))) r) ⌝ }
 {
     if bit {

@@ -27,7 +27,7 @@ use Rattle.sections.specs.declared.Measured.{Measured}
 
 -- storages go on from the older ones, temporaries from NEXT; nothing is printed, and the stack is empty
 abbrev pub start-of : Counts → State
-start-of c = record { counters = record { at = 0; instructions = 0; stored = 0; storage = c .storages; temporary = c .next }; top = 0 }
+start-of c = record { counters = record { at = 0; instructions = 0; stored = 0; storage = c .storages; temporary = c .next; node = record { 0 = 0 } }; top = 0 }
 
 -- the records of all nodes' values
 abbrev pub all-weights : Tables → ℕ

@@ -5,6 +5,7 @@
 // section, and once more for the instructions'. So a refusal writes nothing.
 use answers::Answer;
 use emission::Counters;
+use lir::NodeId;
 use lowering::lower_expression;
 use tables::Counts;
 use values::Lowered;
@@ -46,6 +47,7 @@ fn start(counts: Counts) -> State
             stored: 0,
             storage: counts.storages,
             temporary: counts.next,
+            node: NodeId(0),
         },
         top: 0,
     }

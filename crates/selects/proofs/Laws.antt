@@ -1,5 +1,5 @@
 -- What the pieces of a select leave, and a select of them.
-use mathlib.Core.Path.{_≡_, refl, subst, _∙_}
+use mathlib.Core.Path.{_≡_, refl, subst, _∙_, sym, ap}
 use mathlib.Core.Bool.{Bool, true, false}
 use mathlib.Core.List.{List, _∷_, map, append-nil, []}
 use mathlib.Core.Option.{Option, none, some}
@@ -22,6 +22,7 @@ use Rattle.text.specs.Put.{last, sat}
 use Rattle.lir.specs.declared.Bytes.{Bytes}
 use Rattle.lir.specs.Abstract.{tab, byte-at, bytes-of, Small}
 use Rattle.lir.specs.PutFields.{spot, length-tab}
+use Rattle.lir.specs.declared.NodeId.{NodeId}
 use Rattle.emission.specs.declared.Counters.{Counters}
 use Rattle.emission.specs.declared.Allocated.{Allocated}
 use Rattle.emission.specs.declared.Emitted.{Emitted}
@@ -131,7 +132,8 @@ module _ {n : ℕ} {l : List ℕ} {c : Counters} {m : Lower Unit} where
             storages = [];
             kinds = [];
             is = λ h. e h (counters-of c);
-            appends = λ h. append-none (record { code = x; store = p; at = y; stored = z });
+            appends = λ h e. append-none (record { code = x; store = p; at = y; stored = z });
+            node = refl;
             few-storages = omega arith;
             few-kinds = omega arith;
           };
@@ -153,6 +155,7 @@ module _ {n : ℕ} {l : List ℕ} {c : Counters} {m : Lower Unit} where
             kinds = x .kinds;
             is = λ h. e h (counters-of c) ∙ x .is h;
             appends = x .appends;
+            node = x .node;
             few-storages = x .few-storages;
             few-kinds = x .few-kinds;
           })
@@ -346,33 +349,33 @@ module _ (T : Tables) (q : BitOperand) (a b id ty : ℕ) (ts fs : List ValueOper
   fill-refused e = rw (← (targets-here T id ty size z), code-stopped store p w e .is h) (record { shown = (refl, refl) })
 
   module _ {c1 : Counters} (e : r ≡ Emitted.Done c1) where
-    pub fill-room : {stack stack1 : List ℕ} → Readable T → FillRoom T ty size s stack → length stack1 ≡ length stack → TypeRoom T ty 0 (record { counters = c1; top = s .top }) stack1
+    pub fill-room : {stack stack1 : List ℕ} → Readable T → FillRoom T (h .node) ty size s stack → length stack1 ≡ length stack → TypeRoom T (h .node) ty 0 (record { counters = c1; top = s .top }) stack1
     fill-room R f g =
         let d = code-done store p w e in
-        record { room = room-less (omega (arith, R .types .size-most ty)) (room-done {n = 1024} {k = 3071} (room-less (omega arith) (f .room)) d); top = omega (arith, f .top); reach = omega (arith, R .types .size-most ty) }
+        record { node = f .node ∙ sym (ap (λ (z : NodeId). z .0) (d .node)); room = room-less (omega (arith, R .types .size-most ty)) (room-done {n = 1024} {k = 3071} (room-less (omega arith) (f .room)) d); top = omega (arith, f .top); reach = omega (arith, R .types .size-most ty) }
 
-    pub fill-meets : {n stack : List ℕ} {b1 : Bufs} {x : Lowered} → s .top ≤ length stack
+    pub fill-meets : {n stack : List ℕ} {b1 : Bufs} {x : Lowered} → s .top ≤ length stack → h .node ≡ s .counters .node .0
         → MeetsValue (bufs code1 store n stack) (record { counters = c1; top = s .top }) (read-location T (location id ty) h (counters-of c1)) b1 x
         → MeetsValue (bufs code store n stack) s (fills-and-reads T q a ts b fs (location id ty) h (counters-in s)) b1 x
     unfolding fills-and-reads _>>_
-    fill-meets {n} {stack} g m =
+    fill-meets {n} {stack} g v m =
         let d = code-done store p w e in
-        rw (← (targets-here T id ty size z), d .is h) (drop-meets (left-does {s = s} n stack h d) g m)
+        rw (← (targets-here T id ty size z), d .is h) (drop-meets (left-does {s = s} n stack h v d) g m)
 
 -- the room behind the temporary
-pub temporary-room : {T : Tables} {ty size : ℕ} {s : State} {store store1 stack : List ℕ} {r : Temporary} {new : Allocated} → MeetsTemporary store (s .counters) (allocate-temporary T ty) ty store1 r → r ≡ Temporary.Placed new
-    → StepRoom T ty s stack → size-of T ty ≡ size → FillRoom T ty size (record { counters = new .counters; top = s .top }) stack
-temporary-room w e f z = record { room = room-allocated {n = 4095} (f .room) (temporary-placed w e); top = f .top; sized = z }
+pub temporary-room : {T : Tables} {nd ty size : ℕ} {s : State} {store store1 stack : List ℕ} {r : Temporary} {new : Allocated} → MeetsTemporary store (s .counters) (allocate-temporary T ty) ty store1 r → r ≡ Temporary.Placed new
+    → StepRoom T nd ty s stack → size-of T ty ≡ size → FillRoom T nd ty size (record { counters = new .counters; top = s .top }) stack
+temporary-room w e f z = record { node = f .node ∙ sym (ap (λ (z : NodeId). z .0) (temporary-placed w e .node)); room = room-allocated {n = 4095} (f .room) (temporary-placed w e); top = f .top; sized = z }
 
 module _ (T : Tables) (q : BitOperand) (a b ty : ℕ) (ts fs : List ValueOperand) (s : State) {store store1 : List ℕ} {r : Temporary} (w : MeetsTemporary store (s .counters) (allocate-temporary T ty) ty store1 r) (h : At) where
   pub select-refused : {k : ℕ} {b0 b1 : Bufs} → r ≡ Temporary.Refused k → MeetsValue b0 s (selects T q a ts b fs ty h (counters-in s)) b1 (Lowered.Refused k (h .line))
   unfolding selects _>>=_
   select-refused e = rw (temporary-refused w e .is h) (record { shown = (refl, refl) })
 
-  pub select-meets : {new : Allocated} {code n stack : List ℕ} {b1 : Bufs} {x : Lowered} → r ≡ Temporary.Placed new → length code ≤ last → s .counters .at ≤ last → s .top ≤ length stack
+  pub select-meets : {new : Allocated} {code n stack : List ℕ} {b1 : Bufs} {x : Lowered} → r ≡ Temporary.Placed new → length code ≤ last → s .counters .at ≤ last → s .top ≤ length stack → h .node ≡ s .counters .node .0
       → MeetsValue (bufs code store1 n stack) (record { counters = new .counters; top = s .top }) (fills-and-reads T q a ts b fs (location (new .id .0) ty) h (counters-of (new .counters))) b1 x
       → MeetsValue (bufs code store n stack) s (selects T q a ts b fs ty h (counters-in s)) b1 x
   unfolding selects fills-and-reads fills _>>=_
-  select-meets {new} {code} {n} {stack} e y z g m =
+  select-meets {new} {code} {n} {stack} e y z g v m =
       let d = does-allocate code y z (temporary-placed w e) in
-      rw (d .is h) (drop-meets (left-does {s = s} n stack h d) g m)
+      rw (d .is h) (drop-meets (left-does {s = s} n stack h v d) g m)

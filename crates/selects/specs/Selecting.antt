@@ -61,7 +61,8 @@ pub record Both (stack : List ℕ) (top middle end : ℕ) (t f : Val) : Type 0 w
   pub fits : end ≤ length stack
 
 -- behind the temporary of type ty
-pub record FillRoom (T : Tables) (ty size : ℕ) (s : State) (stack : List ℕ) : Type 0 where
+pub record FillRoom (T : Tables) (n ty size : ℕ) (s : State) (stack : List ℕ) : Type 0 where
+  pub node : n ≡ s .counters .node .0
   pub room : Room 4095 (s .counters)
   pub top : s .top + 8 * weight-of T ty ≤ length stack + 8
   pub sized : size-of T ty ≡ size

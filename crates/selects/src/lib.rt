@@ -238,7 +238,7 @@ fn select_to_location(stack: &[u64], code: &mut [u8], c: Counters, to: StorageId
 
 // The temporary filled, and then read.
 fn select_into(rows: &[u64], nodes: &[u64], lists: &[u64], counts: Counts, code: &mut [u8], store: &mut [u8], stack: &mut [u64], s: State, to: StorageId, size: u64, c: BitOperand, t: Value, f: Value, middle: usize, end: usize, h: At) -> Lowered
-    requires { ⌜ (Readable (tables-of (now rows) (now nodes) (now lists) counts)) × (FillRoom (tables-of (now rows) (now nodes) (now lists) counts) (h .ty) size s (now stack)) × (Both (now stack) (s .top) middle end t f) ⌝ }
+    requires { ⌜ (Readable (tables-of (now rows) (now nodes) (now lists) counts)) × (FillRoom (tables-of (now rows) (now nodes) (now lists) counts) (h .node .0) (h .ty) size s (now stack)) × (Both (now stack) (s .top) middle end t f) ⌝ }
     ensures { λ r. ⌜ ((n : List ℕ) → MeetsValue (bufs (now (code .entry)) (now (store .entry)) n (now (stack .entry))) s (fills-and-reads (tables-of (now (rows .entry)) (now (nodes .entry)) (now (lists .entry)) counts) (bit-operand-of c) (t .ty) (operands-of (head-of t ∷ heads (now (stack .entry)) (s .top) middle)) (f .ty) (operands-of (head-of f ∷ heads (now (stack .entry)) middle end)) (location (to .0) (h .ty)) (at-of h) (counters-in s)) (bufs (now (code .exit)) (now (store .exit)) n (now (stack .exit))) r) ⌝ }
 {
     let counters = s.counters;
@@ -257,7 +257,7 @@ fn select_into(rows: &[u64], nodes: &[u64], lists: &[u64], counts: Counts, code:
 // The parts of t stand from the top to `middle`, those of f from there to `end`; both are gone through before the temporary's parts
 // are stored there.
 pub fn lower_select(rows: &[u64], nodes: &[u64], lists: &[u64], counts: Counts, code: &mut [u8], store: &mut [u8], stack: &mut [u64], s: State, c: BitOperand, t: Value, f: Value, middle: usize, end: usize, h: At) -> Lowered
-    requires { ⌜ (Readable (tables-of (now rows) (now nodes) (now lists) counts)) × (StepRoom (tables-of (now rows) (now nodes) (now lists) counts) (h .ty) s (now stack)) × (Sound-value t) × (Sound-value f) × (Stands (now stack) (s .top) middle) × (Stands (now stack) middle end) × (s .top ≤ middle) × (middle ≤ end) × (end ≤ length (now stack)) ⌝ }
+    requires { ⌜ (Readable (tables-of (now rows) (now nodes) (now lists) counts)) × (StepRoom (tables-of (now rows) (now nodes) (now lists) counts) (h .node .0) (h .ty) s (now stack)) × (Sound-value t) × (Sound-value f) × (Stands (now stack) (s .top) middle) × (Stands (now stack) middle end) × (s .top ≤ middle) × (middle ≤ end) × (end ≤ length (now stack)) ⌝ }
     ensures { λ r. ⌜ ((n : List ℕ) → MeetsValue (bufs (now (code .entry)) (now (store .entry)) n (now (stack .entry))) s (selects (tables-of (now (rows .entry)) (now (nodes .entry)) (now (lists .entry)) counts) (bit-operand-of c) (t .ty) (operands-of (head-of t ∷ heads (now (stack .entry)) (s .top) middle)) (f .ty) (operands-of (head-of f ∷ heads (now (stack .entry)) middle end)) (h .ty) (at-of h) (counters-in s)) (bufs (now (code .exit)) (now (store .exit)) n (now (stack .exit))) r) ⌝ }
 {
     let counters = s.counters;

@@ -1,7 +1,7 @@
 -- Examples: 12 added to a 9-bit number, with other regions and with more variables and statics; and why the smaller ticket must be the accepted one.
 use Prim.Native.Nat.{ℕ}
 use Prim.Native.String.{String}
-use mathlib.Core.List.{List, _∷_, _++_, []}
+use mathlib.Core.List.{List, [], _∷_, _++_}
 use mathlib.Core.Path.{_≡_, refl}
 use Rattle.spec.specs.Text.{text, split, line-feed}
 use Rattle.spec.specs.Answer.{refused, accepted, answer, computing}
@@ -16,7 +16,7 @@ ticket storage added place = text ("f,0,0" ∷ "t,bool" ∷ "t,pointer" ∷ "t,b
 
 abbrev listing : List String
 listing =
-    "storage,1,2,2,0,0,36" ∷ "storage,2,3,0,1,1,2" ∷ "i,add,1.0,0.0,#12,-,2" ∷ "i,add,1.1,0.1,#0,2,-" ∷ "i,and,1.1,1.1,#1" ∷
+    "storage,1,2,2,0,0,36" ∷ "storage,2,3,0,1,1,2" ∷ "i,add,1.0,0.0,#12,-,2,2" ∷ "i,add,1.1,0.1,#0,2,-,2" ∷ "i,and,1.1,1.1,#1,2" ∷
     "value,2,bytes,2,1.0,1.1" ∷ "done,3,2,2" ∷ []
 
 as-it-is : answer (ticket "s,2,2,1,36" [] "p,variable,0") 200 ≡ accepted (text listing)

@@ -1,6 +1,6 @@
 -- Two lists related line by line.
 use Prim.Native.Nat.{ℕ, zero, suc}
-use mathlib.Core.List.{List, _∷_, _++_, []}
+use mathlib.Core.List.{List, [], _∷_, _++_}
 use mathlib.Core.Path.{_≡_, refl}
 use lib.ListN.{getD, length}
 use Rattle.spec.specs.Alike.{Pairwise, both-end, _with_}

@@ -1,6 +1,6 @@
 -- Places over tables with more variables and statics: where one resolves over fewer, it resolves the same over more.
 use Prim.Native.Nat.{ℕ, zero, suc}
-use mathlib.Core.List.{List, _∷_, _++_, []}
+use mathlib.Core.List.{List, [], _∷_, _++_}
 use mathlib.Core.Option.{some}
 use mathlib.Core.Path.{_≡_}
 use Rattle.spec.specs.Hir.{Expr, Place, variable, static, field, element, byte-offset}

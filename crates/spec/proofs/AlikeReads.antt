@@ -1,7 +1,7 @@
 -- Allocation and reading look at types alone: over tables with the same types they answer the same.
 use Prim.Native.Nat.{ℕ, zero, suc, _+_}
 use mathlib.Core.Bool.{Bool, true, false}
-use mathlib.Core.List.{List, _∷_, _++_, []}
+use mathlib.Core.List.{List, [], _∷_, _++_}
 use mathlib.Core.Path.{_≡_, refl}
 use Rattle.spec.specs.Limits.{type-depth-limit}
 use Rattle.spec.specs.Ticket.{TypeWord, tUnit, tBool, tBits, tFloat, tPointer, tArray, tStruct, tTuple, tOpaque, StorageLine, PlacedLine, PlaceLine, NodeLine, Tables, typeAt, arg}

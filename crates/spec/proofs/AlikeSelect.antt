@@ -1,7 +1,7 @@
 -- The own steps of selects and addresses: of an older storage, only its owner is looked at.
 use Prim.Native.Nat.{ℕ}
 use mathlib.Core.Bool.{Bool, true, false}
-use mathlib.Core.List.{List, _∷_, []}
+use mathlib.Core.List.{List, [], _∷_}
 use mathlib.Core.Path.{_≡_, refl}
 use lib.ListN.{take}
 use Rattle.spec.specs.Hir.{Place}

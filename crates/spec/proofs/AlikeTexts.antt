@@ -1,6 +1,6 @@
 -- A text with more variables and statics, or other regions, reads as tables with no other difference.
 use Prim.Native.Nat.{ℕ}
-use mathlib.Core.List.{List, _∷_, _++_, append-assoc, []}
+use mathlib.Core.List.{List, [], _∷_, _++_, append-assoc}
 use mathlib.Core.Path.{_≡_, refl}
 use Rattle.spec.specs.Ticket.{PlacedLine, Tables, noPlace, noNode}
 use Rattle.spec.specs.Forms.{Field, between, float-width, type-part, type, storage, place, node, Arg, Head, f-line, s-line, v-line, g-line, t-line, p-line, n-line, values}

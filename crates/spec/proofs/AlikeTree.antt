@@ -1,6 +1,6 @@
 -- A whole expression over tables with more variables and statics: by the depth, each node's word, numbers and TYPE being the same.
 use Prim.Native.Nat.{ℕ, zero, suc}
-use mathlib.Core.List.{List, _∷_, []}
+use mathlib.Core.List.{List, [], _∷_}
 use mathlib.Core.Path.{_≡_, refl}
 use Rattle.spec.specs.Hir.{At, Expr, Place}
 use Rattle.spec.specs.Ticket.{PlaceWord, pVariable, pStatic, pField, pElement, pOffset, NodeWord, nBool, nInt, nF32, nF64, nNull, nStaticAddress, nFunction, nRead, nUnary, nBinary, nFunary, nFbinary, nCompare, nConvert, nSelect, nAddress, nOffset, nAggregate, nExtract, nInsert, Tables, noPlace, placeLineAt, noNode, nodeAt, arg, exprsOf, exprOf, placeOf, exprAt, placeAt}

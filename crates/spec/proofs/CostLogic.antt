@@ -2,7 +2,7 @@
 -- L stands for all the storages that a listing will have: cost and writes are claimed where L has what the step appends.
 use Prim.Native.Nat.{ℕ, suc, _+_, _≤_}
 use mathlib.Core.Bool.{true}
-use mathlib.Core.List.{List, _∷_, _++_, []}
+use mathlib.Core.List.{List, [], _∷_, _++_}
 use mathlib.Core.Option.{some}
 use mathlib.Core.Path.{_≡_}
 use native.Mathlib.Omega.{arith}

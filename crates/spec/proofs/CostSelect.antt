@@ -1,7 +1,7 @@
 -- The own steps of select, addresses and pointer offsets, each within its budget.
 use Prim.Native.Nat.{ℕ, _+_, _*_, _≤_}
 use mathlib.Core.Bool.{Bool, true, false}
-use mathlib.Core.List.{List, _∷_, map, []}
+use mathlib.Core.List.{List, [], _∷_, map}
 use mathlib.Core.Option.{some, Option·none-ne-some, Option·some-injective}
 use mathlib.Core.Path.{_≡_, refl, sym, ap, _∙_}
 use native.Mathlib.Omega.{arith}

@@ -1,7 +1,7 @@
 -- The smallest steps of the monad in the logic of cost.
 use Prim.Native.Nat.{ℕ, _+_, _*_, _≤_, zero-le}
 use mathlib.Core.Bool.{Bool, true, false}
-use mathlib.Core.List.{List, _∷_, []}
+use mathlib.Core.List.{List, [], _∷_}
 use mathlib.Core.Option.{Option, none, some}
 use mathlib.Core.Path.{_≡_, refl}
 use native.Mathlib.Omega.{arith}

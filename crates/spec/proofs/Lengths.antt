@@ -1,6 +1,6 @@
 -- How long the lists are that the definitions make.
 use Prim.Native.Nat.{ℕ, zero, suc}
-use mathlib.Core.List.{List, _∷_, []}
+use mathlib.Core.List.{List, [], _∷_}
 use mathlib.Core.Path.{_≡_, refl, ap}
 use lib.ListN.{length}
 use Rattle.spec.specs.Hir.{At}

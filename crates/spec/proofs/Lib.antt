@@ -1,6 +1,7 @@
 pub mod Cases
 pub mod Stars
 pub mod Readings
+pub mod Readings02
 pub mod Bools
 pub mod Lengths
 pub mod Answers
@@ -12,6 +13,7 @@ pub mod ListingInstructions
 pub mod ListingLines
 pub mod ListingValues
 pub mod RoundTrip
+pub mod Plain
 pub mod ReadingLists
 pub mod ReadingTests
 pub mod ReadingForms

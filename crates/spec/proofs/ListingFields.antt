@@ -1,7 +1,7 @@
 -- Fields: each operand's reader reads back what was printed of it, and no field holds a comma or a line feed.
 use Prim.Native.Nat.{ℕ}
 use mathlib.Core.Bool.{true, _&&_}
-use mathlib.Core.List.{List, _∷_, _++_, map, []}
+use mathlib.Core.List.{List, [], _∷_, _++_, map}
 use mathlib.Core.Option.{Option, none, some, Option·none-ne-some as none≢some}
 use mathlib.Core.Path.{_≡_, refl}
 use lib.ListN.{length}

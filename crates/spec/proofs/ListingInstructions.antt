@@ -1,6 +1,6 @@
 -- Instructions: each form's fields are read back.
 use Prim.Native.Nat.{ℕ}
-use mathlib.Core.List.{List, _∷_, _++_, append-assoc, []}
+use mathlib.Core.List.{List, [], _∷_, _++_, append-assoc}
 use mathlib.Core.Option.{Option, some}
 use mathlib.Core.Path.{_≡_, refl}
 use Rattle.spec.specs.Text.{digits, same}

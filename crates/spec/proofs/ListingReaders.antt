@@ -1,5 +1,5 @@
 -- Readers of what was printed: in sequence, over a list, a whole line.
-use mathlib.Core.List.{List, _∷_, _++_, append-nil, append-assoc, []}
+use mathlib.Core.List.{List, [], _∷_, _++_, append-nil, append-assoc}
 use mathlib.Core.Option.{Option, some}
 use mathlib.Core.Path.{_≡_, refl}
 use Rattle.spec.specs.ReadBack.{Reader, then, _>>=_, pure, next, whole}

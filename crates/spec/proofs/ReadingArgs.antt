@@ -1,7 +1,7 @@
 -- What the tests say of the numbers of a line that refer to a type's parts or to nodes: they stand earlier, and are less deep than the line.
 use Prim.Native.Nat.{ℕ, _≤_, _<_}
 use mathlib.Core.Bool.{true}
-use mathlib.Core.List.{List, _∷_, []}
+use mathlib.Core.List.{List, [], _∷_}
 use mathlib.Core.Path.{_≡_}
 use native.Mathlib.Omega.{arith}
 use borrow.Author.Tests.{ltb-true}

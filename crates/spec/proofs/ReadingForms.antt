@@ -1,7 +1,7 @@
 -- The numbers of a line by the classes of its fields: what a rule asks for is what the text's reading makes.
 use Prim.Native.Nat.{ℕ}
 use mathlib.Core.Bool.{Bool, true, false}
-use mathlib.Core.List.{List, _∷_, []}
+use mathlib.Core.List.{List, [], _∷_}
 use mathlib.Core.Option.{Option, none, some, Option·none-ne-some as none≢some, Option·some-injective as of-some}
 use mathlib.Core.Path.{_≡_, refl, ap}
 use Rattle.spec.specs.Text.{bytes, same, number}

@@ -1,6 +1,6 @@
 -- Every line that can be read has the form of its head: checked rule by rule, and carried over from the rules to the text.
 use Prim.Native.Nat.{ℕ}
-use mathlib.Core.List.{List, _∷_, []}
+use mathlib.Core.List.{List, [], _∷_}
 use mathlib.Core.Option.{Option, none, some, Option·none-ne-some as none≢some, Option·some-injective as of-some}
 use mathlib.Core.Path.{_≡_, refl}
 use Rattle.spec.specs.Text.{split, comma}

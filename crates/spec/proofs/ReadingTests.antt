@@ -1,7 +1,7 @@
 -- What it means that a line passes every test of reading. A test that has no name outside the definitions is written here as it stands there.
 use Prim.Native.Nat.{ℕ, _≤_}
 use mathlib.Core.Bool.{Bool, true, false, _&&_, _||_}
-use mathlib.Core.List.{List, _∷_, []}
+use mathlib.Core.List.{List, [], _∷_}
 use mathlib.Core.Option.{none, Option·none-ne-some as none≢some}
 use mathlib.Core.Path.{_≡_, refl, sym}
 use borrow.Author.Tests.{leb-true}

@@ -1,7 +1,7 @@
 -- The expression of a node: its sum over nodes is no more than that of the lines that it is made of, where the fuel reaches as deep as the node.
 use Prim.Native.Nat.{ℕ, zero, suc, _+_, _-_, _≤_, _<_}
 use mathlib.Core.Bool.{Bool}
-use mathlib.Core.List.{List, _∷_, []}
+use mathlib.Core.List.{List, [], _∷_}
 use native.Mathlib.Omega.{arith}
 use lib.ListN.{length}
 use Rattle.spec.specs.Limits.{depth-limit}

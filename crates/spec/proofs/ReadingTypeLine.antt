@@ -1,7 +1,7 @@
 -- A type line that passes the tests is right behind the types before it; the first two are bool and pointer.
 use Prim.Native.Nat.{ℕ, _≤_}
 use mathlib.Core.Bool.{Bool, true, not}
-use mathlib.Core.List.{List, _∷_, _++_, []}
+use mathlib.Core.List.{List, [], _∷_, _++_}
 use mathlib.Core.Option.{none}
 use mathlib.Core.Path.{_≡_, refl, ap, _∙_}
 use native.Mathlib.Omega.{arith}

@@ -2,7 +2,7 @@
 use Prim.Native.Nat.{ℕ, _≤_}
 use Prim.Native.String.{String}
 use mathlib.Core.Bool.{false}
-use mathlib.Core.List.{List, _∷_, _++_, map, append-assoc, []}
+use mathlib.Core.List.{List, [], _∷_, _++_, map, append-assoc}
 use mathlib.Core.Option.{some}
 use mathlib.Core.Path.{_≡_, refl, _∙_}
 use native.Mathlib.Omega.{arith}
@@ -14,7 +14,7 @@ use Rattle.spec.specs.Print.{print-listing}
 use Rattle.spec.specs.ReadBack as read
 use Rattle.spec.specs.ReadBack.{Reader, Field, Line, nth, _>>=_, pure, line-of, read-listing}
 use Rattle.spec.proofs.ListingReaders.{Takes, takes-then, takes-last, takes-next, takes-all, whole-of}
-use Rattle.spec.proofs.ListingFields.{Fields, already, then-next, last, number-field, operator-field}
+use Rattle.spec.proofs.ListingFields.{Fields, already, thens, then-next, last, number-field, operator-field}
 use Rattle.spec.proofs.ListingInstructions.{kind-fields}
 use Rattle.spec.proofs.ListingLines.{Lines, lines-append, lines-whole, one-line, each-line, line-back, line-other, Ends, other, several-then}
 use Rattle.spec.proofs.ListingValues.{shape-fields, value-lines, value-cut, value-back}
@@ -40,7 +40,7 @@ kind Lir.byte = refl
 kind (Lir.bytes n) = refl
 kind Lir.carry = refl
 
-unfoldable storage-fields : Lir.Storage → List Field
+unfoldable pub storage-fields : Lir.Storage → List Field
 storage-fields s =
     digits (s .id) ∷ digits (print.kind-number (s .kind)) ∷ digits (print.kind-length (s .kind)) ∷
     digits (print.purpose-number (s .purpose)) ∷ digits (s .number) ∷ digits (s .regions) ∷ []
@@ -58,11 +58,14 @@ storage-back s =
 
 -- ---------------------------------------------------------------- narrowed, instructions, done
 
-instruction-back : (i : Lir.Instruction) → Fields read.instruction (print.instruction-fields (i .kind)) i
-unfolding read.instruction
-instruction-back i = last (λ k. record { kind = k }) (kind-fields (i .kind))
+abbrev pub instruction-fields : Lir.Instruction → List Field
+instruction-fields i = print.instruction-fields (i .kind) ++ digits (i .node) ∷ []
 
-abbrev done-fields : Lir.Done → List Field
+instruction-back : (i : Lir.Instruction) → Fields read.instruction (instruction-fields i) i
+unfolding read.instruction
+instruction-back i = thens _ (kind-fields (i .kind)) (last _ (number-field (i .node)))
+
+abbrev pub done-fields : Lir.Done → List Field
 done-fields d = digits (d .instructions) ∷ digits (d .storages) ∷ digits (d .next) ∷ []
 
 done-back : (d : Lir.Done) → Fields read.done (done-fields d) d
@@ -71,16 +74,16 @@ done-back d = then-next _ (number-field (d .instructions)) (then-next _ (number-
 
 -- ---------------------------------------------------------------- the listing's lines
 
-abbrev storage-line : Lir.Storage → Line
+abbrev pub storage-line : Lir.Storage → Line
 storage-line s = bytes "storage" ∷ storage-fields s
 
-abbrev narrowed-line : ℕ → Line
+abbrev pub narrowed-line : ℕ → Line
 narrowed-line n = bytes "narrowed" ∷ digits n ∷ []
 
-abbrev instruction-line : Lir.Instruction → Line
-instruction-line i = bytes "i" ∷ print.instruction-fields (i .kind)
+abbrev pub instruction-line : Lir.Instruction → Line
+instruction-line i = bytes "i" ∷ instruction-fields i
 
-abbrev done-line : Lir.Done → Line
+abbrev pub done-line : Lir.Done → Line
 done-line d = bytes "done" ∷ done-fields d
 
 storage-cut : (s : Lir.Storage) → Lines (print.storage-line s) (storage-line s ∷ [])
@@ -100,19 +103,19 @@ unfolding print.done-line
 done-cut d = one-line (record { no-comma = refl; no-feed = refl }) (done-back d .clean)
 
 -- what stands behind the storages, the narrowed ones, the instructions
-unfoldable behind-instructions : Lir.Listing → List Line
+unfoldable pub behind-instructions : Lir.Listing → List Line
 behind-instructions l = value-lines (l .value) ++ (done-line (l .done) ∷ [])
 
-unfoldable behind-narrowed : Lir.Listing → List Line
+unfoldable pub behind-narrowed : Lir.Listing → List Line
 behind-narrowed l = map instruction-line (l .instructions) ++ behind-instructions l
 
-unfoldable behind-storages : Lir.Listing → List Line
+unfoldable pub behind-storages : Lir.Listing → List Line
 behind-storages l = map narrowed-line (l .narrowed) ++ behind-narrowed l
 
-unfoldable listing-lines : Lir.Listing → List Line
+unfoldable pub listing-lines : Lir.Listing → List Line
 listing-lines l = map storage-line (l .storages) ++ behind-storages l
 
-listing-cut : (l : Lir.Listing) → Lines (print-listing l) (listing-lines l)
+pub listing-cut : (l : Lir.Listing) → Lines (print-listing l) (listing-lines l)
 unfolding print-listing listing-lines behind-storages behind-narrowed behind-instructions
 listing-cut l = simp append-assoc (
     lines-append (each-line print.storage-line storage-line storage-cut (l .storages)) (
@@ -136,13 +139,13 @@ storages-end : (l : Lir.Listing) → Ends (line-of "storage" read.storage) (behi
 unfolding behind-storages behind-narrowed behind-instructions same
 storages-end l =
     ends-each "storage" "narrowed" read.storage (λ n. digits n ∷ []) refl (l .narrowed) (behind-narrowed l) (
-    ends-each "storage" "i" read.storage (λ i. print.instruction-fields (i .kind)) refl (l .instructions) (behind-instructions l) (
+    ends-each "storage" "i" read.storage instruction-fields refl (l .instructions) (behind-instructions l) (
     ends-value "storage" read.storage refl (l .value) (done-line (l .done) ∷ [])))
 
 narrowed-end : (l : Lir.Listing) → Ends (line-of "narrowed" read.number) (behind-narrowed l)
 unfolding behind-narrowed behind-instructions same
 narrowed-end l =
-    ends-each "narrowed" "i" read.number (λ i. print.instruction-fields (i .kind)) refl (l .instructions) (behind-instructions l) (
+    ends-each "narrowed" "i" read.number instruction-fields refl (l .instructions) (behind-instructions l) (
     ends-value "narrowed" read.number refl (l .value) (done-line (l .done) ∷ []))
 
 instructions-end : (l : Lir.Listing) → Ends (line-of "i" read.instruction) (behind-instructions l)

@@ -1,6 +1,6 @@
 -- Why an aggregate's TYPE must have parts to be rightly typed: the smallest ticket whose run else leaves something else than it means.
 use mathlib.Core.Bool.{true, false}
-use mathlib.Core.List.{_∷_, []}
+use mathlib.Core.List.{[], _∷_}
 use mathlib.Core.Option.{some}
 use mathlib.Core.Path.{_≡_, refl}
 use Rattle.spec.specs.Text.{text}

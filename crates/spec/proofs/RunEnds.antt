@@ -1,6 +1,6 @@
 -- From a ticket's bytes to a number, computed: answered, the bytes read back as a listing, and run.
 use Prim.Native.String.{String}
-use mathlib.Core.List.{List, _∷_, []}
+use mathlib.Core.List.{List, [], _∷_}
 use mathlib.Core.Option.{Option, none, some}
 use mathlib.Core.Path.{_≡_, refl}
 use Rattle.spec.specs.Text.{text}

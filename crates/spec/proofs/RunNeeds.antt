@@ -1,7 +1,7 @@
 -- What running needs of a ticket's variables and statics, by a test of their lines.
 use Prim.Native.Nat.{ℕ, zero, suc}
-use mathlib.Core.Bool.{Bool, true, false, _&&_, not, _||_}
-use mathlib.Core.List.{List, _∷_, []}
+use mathlib.Core.Bool.{Bool, true, false, _&&_, _||_, not}
+use mathlib.Core.List.{List, [], _∷_}
 use mathlib.Core.Option.{some, Option·none-ne-some}
 use mathlib.Core.Path.{_≡_}
 use lib.Dec.{eqb, ltb}

@@ -1,7 +1,7 @@
 -- Nested operations, computed: each ticket is read from its text, rightly typed and in order, and its meaning is what the run leaves.
 use Prim.Native.String.{String}
 use mathlib.Core.Bool.{true, false, _&&_}
-use mathlib.Core.List.{List, _∷_, _++_, []}
+use mathlib.Core.List.{List, [], _∷_, _++_}
 use mathlib.Core.Option.{Option, none, some}
 use mathlib.Core.Path.{_≡_, refl}
 use Rattle.spec.specs.Text.{text}

@@ -1,7 +1,7 @@
 -- Each kind of expression over operands that are lowered rightly: what an accepted lowering leaves is what the expression means.
 use Prim.Native.Nat.{ℕ, zero, suc, _/_, _%_, _^_, _≤_, _<_}
 use mathlib.Core.Bool.{Bool, true}
-use mathlib.Core.List.{List, _∷_, []}
+use mathlib.Core.List.{List, [], _∷_}
 use mathlib.Core.Option.{Option, none, some, Option·none-ne-some, Option·some-injective as of-some}
 use mathlib.Core.Path.{_≡_, refl, sym, ap, _∙_}
 use native.Mathlib.Omega.{arith}

@@ -1,7 +1,7 @@
 -- Places: resolving one appends nothing, and its answer is the ticket's alone. Reading from it.
 use Prim.Native.Nat.{ℕ, _≤_, _<_}
 use mathlib.Core.Bool.{Bool, true, false}
-use mathlib.Core.List.{List, _++_, []}
+use mathlib.Core.List.{List, [], _++_}
 use mathlib.Core.Option.{Option, none, some, Option·none-ne-some}
 use mathlib.Core.Path.{_≡_, refl, sym, ap₂, _∙_}
 use native.Mathlib.Omega.{arith}

@@ -1,7 +1,7 @@
 -- A run as a total effect of instructions one after the other, and that it is the run where all of them have a meaning.
 use Prim.Native.Nat.{ℕ, zero, suc}
 use mathlib.Core.Bool.{true}
-use mathlib.Core.List.{List, _∷_, _++_, map, []}
+use mathlib.Core.List.{List, [], _∷_, _++_, map}
 use mathlib.Core.Option.{some}
 use mathlib.Core.Path.{_≡_, refl, ap}
 use Rattle.spec.specs.Hir.{At}

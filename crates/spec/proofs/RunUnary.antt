@@ -1,6 +1,6 @@
 -- THE STEP of the five unary operators and of the ten comparisons of integers, at every width.
 use Prim.Native.Nat.{ℕ, suc, _^_, _<_}
-use mathlib.Core.List.{List, _∷_, []}
+use mathlib.Core.List.{List, [], _∷_}
 use mathlib.Core.Option.{some}
 use mathlib.Core.Path.{_≡_, refl, sym, _∙_}
 use native.Mathlib.Omega.{arith}

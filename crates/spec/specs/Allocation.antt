@@ -1,12 +1,12 @@
 -- `type_size` and `integer_width` of a type line, allocation, and the bytes of a location.
 use Prim.Native.Nat.{ℕ, zero, suc, _+_, _%_}
 use mathlib.Core.Bool.{Bool, true, false}
-use mathlib.Core.List.{List, _∷_, map, []}
+use mathlib.Core.List.{List, [], _∷_, map}
 use mathlib.Core.Option.{Option, none, some}
 use Rattle.spec.specs.Ticket.{TypeWord, tUnit, tBool, tBits, tFloat, tPointer, tArray, tStruct, tTuple, tOpaque, Tables, typeAt, arg}
 use Rattle.spec.specs.Lir.{ByteStorage, ValueStorage, bit-storage, byte-storage, StorageKind, Purpose, tmp}
 use Rattle.spec.specs.Lir as lir
-use Rattle.spec.specs.Monad.{Lower, done, pure, refuse, or-refuse, _>>=_}
+use Rattle.spec.specs.Monad.{Lower, done, _>>=_, pure, refuse, or-refuse}
 
 -- ---------------------------------------------------------------- types
 

@@ -1,7 +1,7 @@
 -- The answer to every ticket and every lent buffer: read, lowered, printed; or a refusal's number and line.
 use Prim.Native.Nat.{ℕ, zero, suc}
 use mathlib.Core.Bool.{Bool, true, false, _||_}
-use mathlib.Core.List.{List, _∷_, _++_, []}
+use mathlib.Core.List.{List, [], _∷_, _++_}
 use lib.Dec.{eqb, leb}
 use lib.ListN.{length, drop}
 use Rattle.spec.specs.Text as text
@@ -71,6 +71,20 @@ answer ticket room = of-reading room (reading.read-ticket ticket)
 unfoldable pub left-in : Answer → List ℕ → List ℕ
 left-in (refused n l) buffer = buffer
 left-in (accepted s) buffer = s ++ drop (length s) buffer
+
+-- ---------------------------------------------------------------- without the nodes
+
+unfoldable pub plain-lowering : Tables → ℕ → Outcome Value → Answer
+plain-lowering T room (monad.refused n l) = refused n l
+plain-lowering T room (monad.done v c o) = fitted room (print.print-plain-listing (listing-of T v c o))
+
+unfoldable pub plain-reading : ℕ → reading.Read → Answer
+plain-reading room (reading.refused n l) = refused n l
+plain-reading room (reading.accepted T) = plain-lowering T room (lower.lowered T)
+
+-- the answer with document 01's listing, before instructions named their nodes
+unfoldable pub plain-answer : List ℕ → ℕ → Answer
+plain-answer ticket room = plain-reading room (reading.read-ticket ticket)
 
 -- ---------------------------------------------------------------- computing
 

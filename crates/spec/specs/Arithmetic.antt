@@ -1,7 +1,7 @@
 -- `lower_integer_unary`, `lower_integer_binary`, `mask_location`.
 use Prim.Native.Nat.{ℕ, zero, suc, _-_, _%_, _^_}
 use mathlib.Core.Bool.{Bool, true, false, _&&_, cond}
-use mathlib.Core.List.{List, _∷_, []}
+use mathlib.Core.List.{List, [], _∷_}
 use mathlib.Core.Option.{Option, none, some}
 use lib.Dec.{eqb, leb}
 use lib.ListN.{length, getD}
@@ -9,7 +9,7 @@ use Rattle.spec.specs.Hir.{IntegerUnaryOp, IntegerBinaryOp}
 use Rattle.spec.specs.Ticket.{Tables}
 use Rattle.spec.specs.Lir.{ByteStorage, ByteOperand, immediate, stored, InstructionKind, RotateDirection, ShiftOp, Value, copy-byte, not-byte, byte-binary, add, subtract, rotate, shift-bytes, integer-unary-bytes, integer-binary-bytes, add-carry, subtract-borrow, negate-borrow}
 use Rattle.spec.specs.Lir as lir
-use Rattle.spec.specs.Monad.{Lower, emit, emits, _>>=_, _>>_}
+use Rattle.spec.specs.Monad.{Lower, _>>=_, _>>_, emit, emits}
 use Rattle.spec.specs.Operands.{value-bytes, all-immediate, lowest-byte}
 use Rattle.spec.specs.Allocation.{Location, integer-width, odd-bits, allocate-temporary, allocate-carry, bytes-at, location-bytes}
 use Rattle.spec.specs.ReadBytes.{read-location}

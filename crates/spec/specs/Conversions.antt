@@ -1,7 +1,7 @@
 -- `lower_compare`, `lower_conversion`, `normalized_bytes`, and what `expression_as_bit` does with a value.
 use Prim.Native.Nat.{ℕ}
 use mathlib.Core.Bool.{Bool, true, false}
-use mathlib.Core.List.{List, _∷_, map, []}
+use mathlib.Core.List.{List, [], _∷_, map}
 use mathlib.Core.Option.{Option, none, some}
 use lib.Dec.{eqb}
 use lib.ListN.{length, replicate}
@@ -9,7 +9,7 @@ use Rattle.spec.specs.Hir.{CompareOp, ConversionOp}
 use Rattle.spec.specs.Ticket.{Tables}
 use Rattle.spec.specs.Lir.{ByteStorage, ByteOperand, immediate, BitOperand, stored-bit, InstructionKind, copy-byte, compare-bytes, bit-to-byte, sign-extend, Purpose, integer-to-boolean, condition, Value, value, bit-value, bytes-value}
 use Rattle.spec.specs.Lir as lir
-use Rattle.spec.specs.Monad.{Lower, pure, refuse, emit, emits, or-refuse, require, _>>=_, _>>_}
+use Rattle.spec.specs.Monad.{Lower, _>>=_, _>>_, pure, refuse, emit, emits, or-refuse, require}
 use Rattle.spec.specs.Operands.{value-type, value-repr, repr-bit, value-bytes, value-bit, resize}
 use Rattle.spec.specs.Allocation.{bool-type, type-size, integer-width, odd-bits, allocate-bit-temporary, allocate-temporary, bytes-at, location-bytes}
 use Rattle.spec.specs.ReadBytes.{read-location}

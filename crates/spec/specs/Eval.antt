@@ -1,7 +1,7 @@
 -- What an expression means in a memory, by the WebAssembly numerics; what a lowered value's pieces hold; and when reads are in order.
 use Prim.Native.Nat.{ℕ, zero, suc, _+_, _%_, _^_}
 use mathlib.Core.Bool.{Bool, true, false, _&&_, not}
-use mathlib.Core.List.{List, _∷_, map, []}
+use mathlib.Core.List.{List, [], _∷_, map}
 use mathlib.Core.Option.{Option, none, some}
 use lib.Dec.{eqb, leb, ltb}
 use Rattle.numerics.specs.Numerics.{truth, iadd, isub, imul, idiv-u, idiv-s, irem-u, irem-s, iand, ior, ixor, inot, ineg, ishl, ishr-u, ishr-s, irotl, irotr, iclz, ictz, ipopcnt, ieq, ine, ilt-u, ilt-s, igt-u, igt-s, ile-u, ile-s, ige-u, ige-s, wrap, extend-u, extend-s, iadd-sat-u, iadd-sat-s, isub-sat-u, isub-sat-s}

@@ -2,7 +2,7 @@
 use Prim.Native.Nat.{ℕ}
 use Prim.Native.String.{String}
 use mathlib.Core.Bool.{true, false}
-use mathlib.Core.List.{List, _∷_, []}
+use mathlib.Core.List.{List, [], _∷_}
 use mathlib.Core.Option.{Option, none, some}
 use Rattle.spec.specs.Text.{bytes, same, split, number, comma}
 use Rattle.spec.specs.Limits.{greatest-16, greatest-32, greatest-64, all-regions}

@@ -1,6 +1,6 @@
 -- hir.rs: operators, expressions and places. A node's type is the number of a type line, a name of the Rust's is a line's number.
 use Prim.Native.Nat.{ℕ}
-use mathlib.Core.List.{List, _∷_, []}
+use mathlib.Core.List.{List, [], _∷_}
 
 -- ---------------------------------------------------------------- operators
 

@@ -1,6 +1,6 @@
 -- lir.rs and the values of lir_lower.rs: operands, instructions, storages, values, and the listing that holds them.
 use Prim.Native.Nat.{ℕ}
-use mathlib.Core.List.{List, _∷_, _++_, map, []}
+use mathlib.Core.List.{List, [], _∷_, _++_, map}
 use mathlib.Core.Option.{Option}
 
 -- ---------------------------------------------------------------- operands
@@ -69,8 +69,10 @@ pub data InstructionKind : Type 0 where
   integer-unary-bytes : IntegerUnaryBytesOp → ℕ → List ByteStorage → List ByteOperand → InstructionKind
   integer-binary-bytes : IntegerBinaryBytesOp → ℕ → List ByteStorage → List ByteOperand → List ByteOperand → InstructionKind
 
+-- with the node whose own step appended it
 pub record Instruction : Type 0 where
   pub kind : InstructionKind
+  pub node : ℕ
 
 -- ---------------------------------------------------------------- storages
 

@@ -1,6 +1,6 @@
 -- `lower_expression`, `lower_expressions`, `expression_as_bit`.
 use Prim.Native.Nat.{ℕ}
-use mathlib.Core.List.{_∷_, []}
+use mathlib.Core.List.{[], _∷_}
 use lib.Dec.{leb}
 use lib.ListN.{length}
 use Rattle.spec.specs.Limits.{constant-limit}
@@ -9,7 +9,7 @@ use Rattle.spec.specs.Ticket.{Tables, nowhere}
 use Rattle.spec.specs.Readable.{root}
 use Rattle.spec.specs.Lir.{immediate, BitOperand, constant, Value, value, bit-value, bytes-value, Values, no-values, _∷ᵛ_}
 use Rattle.spec.specs.Lir as lir
-use Rattle.spec.specs.Monad.{Lower, Outcome, pure, refuse, own, or-refuse, require, _>>=_, _>>_}
+use Rattle.spec.specs.Monad.{Lower, Outcome, _>>=_, _>>_, pure, refuse, own, or-refuse, require}
 use Rattle.spec.specs.Operands.{value-repr, repr-parts, integer-bytes, nth-value, set-value}
 use Rattle.spec.specs.Allocation.{type-size}
 use Rattle.spec.specs.Places.{resolve-place}

@@ -1,7 +1,7 @@
 -- A step of lowering: it appends storages, narrowed storages and instructions, advances two counters, and answers or refuses.
 use Prim.Native.Nat.{ℕ}
 use mathlib.Core.Bool.{Bool, true, false}
-use mathlib.Core.List.{List, _∷_, _++_, []}
+use mathlib.Core.List.{List, [], _∷_, _++_}
 use mathlib.Core.Option.{Option, none, some}
 use Rattle.spec.specs.Hir.{At}
 use Rattle.spec.specs.Lir.{Instruction, InstructionKind, Storage}
@@ -61,7 +61,7 @@ abbrev pub own : {A : Type 0} → At → Lower A → Lower A
 own h m = λ _ c. m h c
 
 abbrev pub made : At → InstructionKind → Instruction
-made h k = record { kind = k }
+made h k = record { kind = k; node = h .node }
 
 abbrev pub made-all : At → List InstructionKind → List Instruction
 made-all h [] = []

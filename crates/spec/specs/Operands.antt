@@ -1,7 +1,7 @@
 -- Values and operands: `value_bytes`, `value_bit`, `integer_bytes`, `immediate_bytes`, and lists of bytes.
 use Prim.Native.Nat.{ℕ, zero, suc, _/_, _%_}
 use mathlib.Core.Bool.{Bool, true, false}
-use mathlib.Core.List.{List, _∷_, []}
+use mathlib.Core.List.{List, [], _∷_}
 use mathlib.Core.Option.{Option, none, some}
 use Rattle.spec.specs.Lir.{ByteOperand, immediate, stored, BitOperand, Value, value, Repr, unit, bit-value, bytes-value, aggregate, Values, no-values, _∷ᵛ_}
 use Rattle.spec.specs.Monad.{Lower, or-refuse}

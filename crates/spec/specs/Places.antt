@@ -1,14 +1,14 @@
 -- Places: `field_offset`, `constant_usize`, `resolve_place`, `resolve_place_base`, `with_type`.
 use Prim.Native.Nat.{ℕ, _+_, _-_, _*_}
 use mathlib.Core.Bool.{Bool, false}
-use mathlib.Core.List.{List, _∷_, []}
+use mathlib.Core.List.{List, [], _∷_}
 use mathlib.Core.Option.{Option, none, some}
 use lib.Dec.{eqb, leb, ltb}
 use lib.ListN.{take}
 use Rattle.spec.specs.Limits.{offset-limit}
 use Rattle.spec.specs.Hir.{Expr, boolean, integer, float32, float64, null-pointer, static-address, function-address, read, integer-unary, integer-binary, float-unary, float-binary, compare, convert, select, address-of, pointer-offset, aggregate, extract-element, insert-element, Place, variable, static, field, element, byte-offset}
 use Rattle.spec.specs.Ticket.{TypeWord, tUnit, tBool, tBits, tFloat, tPointer, tArray, tStruct, tTuple, tOpaque, PlacedLine, Tables, typeAt, arg, sum}
-use Rattle.spec.specs.Monad.{Lower, pure, or-refuse, require, _>>=_, _>>_}
+use Rattle.spec.specs.Monad.{Lower, _>>=_, _>>_, pure, or-refuse, require}
 use Rattle.spec.specs.Operands.{nth}
 use Rattle.spec.specs.Allocation.{Location, type-size}
 

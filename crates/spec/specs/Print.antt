@@ -1,6 +1,6 @@
 -- The listing's text (document 01, 'Listing').
 use Prim.Native.Nat.{ℕ, suc}
-use mathlib.Core.List.{List, _∷_, _++_, map, []}
+use mathlib.Core.List.{List, [], _∷_, _++_, map}
 use mathlib.Core.Option.{Option, none, some}
 use lib.ListN.{length}
 use Rattle.spec.specs.Text.{digits, line}
@@ -134,8 +134,9 @@ instruction-fields (Lir.integer-unary-bytes op w ds s) =
 instruction-fields (Lir.integer-binary-bytes op w ds l r) =
     text.bytes "binary" ∷ digits (binary-number op) ∷ digits w ∷ destinations ds ++ operands l ++ operands r
 
+-- the node comes last
 unfoldable pub instruction-line : Lir.Instruction → List ℕ
-instruction-line i = line (text.bytes "i") (instruction-fields (i .kind))
+instruction-line i = line (text.bytes "i") (instruction-fields (i .kind) ++ digits (i .node) ∷ [])
 
 unfoldable pub storage-line : Lir.Storage → List ℕ
 storage-line s =
@@ -180,5 +181,20 @@ print-listing l =
     each storage-line (l .storages) ++
     each narrowed-line (l .narrowed) ++
     each instruction-line (l .instructions) ++
+    value-lines (l .value) ++
+    done-line (l .done)
+
+-- ---------------------------------------------------------------- without the nodes
+
+-- document 01's line of an instruction
+unfoldable pub plain-instruction-line : Lir.Instruction → List ℕ
+plain-instruction-line i = line (text.bytes "i") (instruction-fields (i .kind))
+
+-- document 01's listing: what equality with the Rust is read of
+unfoldable pub print-plain-listing : Lir.Listing → List ℕ
+print-plain-listing l =
+    each storage-line (l .storages) ++
+    each narrowed-line (l .narrowed) ++
+    each plain-instruction-line (l .instructions) ++
     value-lines (l .value) ++
     done-line (l .done)

@@ -1,8 +1,8 @@
 -- Reading a ticket (document 01, 'Ticket' and the reading rows of the refusal table): each refusal a test, in the table's order,
 -- and the tables that accepted lines build.
 use Prim.Native.Nat.{ℕ, zero, suc, _+_, max, min}
-use mathlib.Core.Bool.{Bool, true, false, _&&_, not, _||_}
-use mathlib.Core.List.{List, _∷_, _++_, []}
+use mathlib.Core.Bool.{Bool, true, false, _&&_, _||_, not}
+use mathlib.Core.List.{List, [], _∷_, _++_}
 use mathlib.Core.Option.{Option, none, some}
 use lib.Dec.{eqb, leb, ltb}
 use lib.ListN.{length, getD, set}

@@ -2,7 +2,7 @@
 use Prim.Native.Nat.{ℕ, zero, suc}
 use Prim.Native.String.{String}
 use mathlib.Core.Bool.{true, false}
-use mathlib.Core.List.{List, _∷_, []}
+use mathlib.Core.List.{List, [], _∷_, _++_}
 use mathlib.Core.Option.{Option, none, some}
 use lib.Dec.{eqb}
 use lib.ListN.{length}
@@ -355,7 +355,8 @@ storage = do
 unfoldable pub instruction : Reader Field Lir.Instruction
 instruction = do
   k ← instruction-kind
-  pure (record { kind = k })
+  n ← number
+  pure (record { kind = k; node = n })
 
 unfoldable pub done : Reader Field Lir.Done
 done = do
@@ -455,3 +456,27 @@ read-lines (some ls) = whole (listing (length ls)) ls
 
 unfoldable pub read-listing : List ℕ → Option Lir.Listing
 read-listing s = read-lines (lines s)
+
+-- ---------------------------------------------------------------- without the nodes
+
+unfoldable pub but-last : {A : Type 0} → List A → List A
+but-last [] = []
+but-last (x ∷ []) = []
+but-last (x ∷ y ∷ xs) = x ∷ but-last (y ∷ xs)
+
+-- a line's text, an instruction's without its last field
+unfoldable pub plain-line : Line → List ℕ
+plain-line [] = line-feed ∷ []
+plain-line (f ∷ fs) = elim (same (text.bytes "i") f) [ true ↦ text.line f (but-last fs) | false ↦ text.line f fs ]
+
+unfoldable pub plain-lines : List Line → List ℕ
+plain-lines [] = []
+plain-lines (l ∷ ls) = plain-line l ++ plain-lines ls
+
+abbrev pub plain-of : Option (List Line) → List ℕ
+plain-of none = []
+plain-of (some ls) = plain-lines ls
+
+-- a listing's text, each instruction's line without its node
+unfoldable pub without-nodes : List ℕ → List ℕ
+without-nodes s = plain-of (lines s)

@@ -1,11 +1,11 @@
 -- `read_bytes_as_type` and `read_location`.
 use Prim.Native.Nat.{ℕ, zero, suc, _+_}
 use mathlib.Core.Bool.{Bool, true, false}
-use mathlib.Core.List.{List, _∷_, map, []}
+use mathlib.Core.List.{List, [], _∷_, map}
 use Rattle.spec.specs.Limits.{type-depth-limit}
 use Rattle.spec.specs.Ticket.{TypeWord, tUnit, tBool, tBits, tFloat, tPointer, tArray, tStruct, tTuple, tOpaque, Tables, typeAt, arg}
 use Rattle.spec.specs.Lir.{stored, stored-bit, byte-to-bit, Value, value, unit, bit-value, bytes-value, aggregate, Values, no-values, _∷ᵛ_, read-bool}
-use Rattle.spec.specs.Monad.{Lower, pure, refuse, emit, _>>=_, _>>_}
+use Rattle.spec.specs.Monad.{Lower, _>>=_, _>>_, pure, refuse, emit}
 use Rattle.spec.specs.Allocation.{type-size, allocate-bit-temporary, Location, bytes-from}
 
 -- n elements of one size, from offset o

@@ -1,6 +1,6 @@
 -- What reading guarantees of the tables of a ticket that it accepts: what lowering, cost and running lean on.
 use Prim.Native.Nat.{ℕ, _+_, _-_, _≤_, _<_}
-use mathlib.Core.List.{List, _∷_, []}
+use mathlib.Core.List.{List, [], _∷_}
 use mathlib.Core.Path.{_≡_}
 use lib.ListN.{length}
 use Rattle.spec.specs.Limits.{type-lines, storage-lines, variable-lines, static-lines, place-lines, node-lines, greatest-16, all-regions, type-size-limit, type-weight-limit, depth-limit, type-depth-limit, size-sum-limit, weight-sum-limit}

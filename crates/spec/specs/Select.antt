@@ -1,14 +1,14 @@
 -- `lower_select` and `select_to_location`; addresses; `lower_pointer_offset`.
 use Prim.Native.Nat.{ℕ}
 use mathlib.Core.Bool.{Bool, true, false, _&&_, not}
-use mathlib.Core.List.{List, _∷_, []}
+use mathlib.Core.List.{List, [], _∷_}
 use mathlib.Core.Option.{Option, none, some}
 use lib.Dec.{eqb, leb}
 use lib.ListN.{length, getD, take}
 use Rattle.spec.specs.Hir.{Place}
 use Rattle.spec.specs.Ticket.{Tables, storageAt}
 use Rattle.spec.specs.Lir.{ByteStorage, BitOperand, ValueOperand, bit-operand, byte-operand, ValueStorage, bit-storage, byte-storage, InstructionKind, address-of, function-address, select-byte, select-bit, Value, flatten-value-operands, pointer-carry}
-use Rattle.spec.specs.Monad.{Lower, pure, narrow, emit, emits, or-refuse, require, _>>=_, _>>_}
+use Rattle.spec.specs.Monad.{Lower, _>>=_, _>>_, pure, narrow, emit, emits, or-refuse, require}
 use Rattle.spec.specs.Operands.{nth, value-type, value-bytes, resize}
 use Rattle.spec.specs.Allocation.{pointer-type, Location, allocate-temporary, allocate-carry, location-bytes, location-value-storages}
 use Rattle.spec.specs.Places.{is-one, resolve-place-base}

@@ -1,6 +1,6 @@
 -- A ticket's lines as tables, and the expression that a node stands for.
 use Prim.Native.Nat.{ℕ, zero, suc, _+_, _*_, _/_}
-use mathlib.Core.List.{List, _∷_, []}
+use mathlib.Core.List.{List, [], _∷_}
 use lib.ListN.{getD}
 use Rattle.spec.specs.Hir.{IntegerUnaryOp, IntegerBinaryOp, CompareOp, ConversionOp, integer-unary-ops, integer-binary-ops, compare-ops, conversion-ops, At, Expr, Exprs, no-exprs, _∷ᵉ_, Place, boolean, integer, float32, float64, null-pointer, static-address, function-address, read, integer-unary, integer-binary, float-unary, float-binary, compare, convert, select, address-of, pointer-offset, aggregate, extract-element, insert-element, variable, static, field, element, byte-offset}
 use Rattle.spec.specs.Hir as hir

@@ -124,6 +124,7 @@ module _ {T : Tables} (purpose : Purpose) (v : Value) {t t1 : Texts} {c c1 : Cou
         kinds = d .kinds;
         is = λ h. not-zero-behind T purpose v h (counters-of c) w e ∙ d .is h;
         appends = d .appends;
+        node = d .node;
         few-storages = d .few-storages;
         few-kinds = d .few-kinds;
       }
@@ -144,26 +145,26 @@ new-refused : {t t1 : Texts} {c : Counters} {m : Lower ℕ} {r : Temporary} {n :
 new-refused {t} {t1} {c} {m} {r} {n} k e = subst (λ (z : Temporary). new-by t c m t1 z) e (k .shown)
 
 module _ (T : Tables) (v : Value) (h : hir.At) (s : State) {code store code′ store′ : List ℕ} (n stack : List ℕ) {r : Temporary} where
-  pub bit-new : {a : Allocated} {x : BitLowered} → repr-bit (value-repr v) ≡ none → MeetsNew (texts code store) (s .counters) (not-zero T condition v) (texts code′ store′) r → r ≡ Temporary.Placed a
+  pub bit-new : {a : Allocated} {x : BitLowered} → h .node ≡ s .counters .node .0 → repr-bit (value-repr v) ≡ none → MeetsNew (texts code store) (s .counters) (not-zero T condition v) (texts code′ store′) r → r ≡ Temporary.Placed a
       → x ≡ BitLowered.Done (Bit.Storage (a .id)) (behind-new s a)
       → MeetsBit (bufs code store n stack) s (value-as-bit T v h (counters-in s)) (bufs code′ store′ n stack) x
   unfolding value-as-bit _>>=_
-  bit-new e m q p =
+  bit-new g e m q p =
       let d = new-done m q in
-      rw (p, e, d .is h, append-nil (d .storages), append-nil (monad.made-all h (d .kinds))) (record { shown = (refl, left-does {s = s} n stack h d) })
+      rw (p, e, d .is h, append-nil (d .storages), append-nil (monad.made-all h (d .kinds))) (record { shown = (refl, left-does {s = s} n stack h g d) })
 
   pub bit-stopped : {k : ℕ} {b : Bufs} → repr-bit (value-repr v) ≡ none → MeetsNew (texts code store) (s .counters) (not-zero T condition v) (texts code′ store′) r → r ≡ Temporary.Refused k
       → MeetsBit (bufs code store n stack) s (value-as-bit T v h (counters-in s)) b (BitLowered.Refused k (h .line))
   unfolding value-as-bit _>>=_
   bit-stopped e m q = rw (e, new-refused m q .is h) (record { shown = (refl, refl) })
 
-  pub bool-new : {a : Allocated} {x : Lowered} → MeetsNew (texts code store) (s .counters) (not-zero T integer-to-boolean v) (texts code′ store′) r → r ≡ Temporary.Placed a
+  pub bool-new : {a : Allocated} {x : Lowered} → h .node ≡ s .counters .node .0 → MeetsNew (texts code store) (s .counters) (not-zero T integer-to-boolean v) (texts code′ store′) r → r ≡ Temporary.Placed a
       → x ≡ Lowered.Done (bool-in (a .id)) (behind-new s a)
       → MeetsValue (bufs code store n stack) s (integer-to-bool T v h (counters-in s)) (bufs code′ store′ n stack) x
   unfolding integer-to-bool _>>=_
-  bool-new m q p =
+  bool-new g m q p =
       let d = new-done m q in
-      rw (p, d .is h, append-nil (d .storages), append-nil (monad.made-all h (d .kinds))) (record { shown = (refl, tt, left-does {s = s} n stack h d) })
+      rw (p, d .is h, append-nil (d .storages), append-nil (monad.made-all h (d .kinds))) (record { shown = (refl, tt, left-does {s = s} n stack h g d) })
 
   pub bool-stopped : {k : ℕ} {b : Bufs} → MeetsNew (texts code store) (s .counters) (not-zero T integer-to-boolean v) (texts code′ store′) r → r ≡ Temporary.Refused k
       → MeetsValue (bufs code store n stack) s (integer-to-bool T v h (counters-in s)) b (Lowered.Refused k (h .line))
@@ -177,11 +178,11 @@ bit-own {b} {s} T v x h e g = rw (e .is) (record { shown = (refl, left-none b s 
 
 -- ---------------------------------------------------------------- comparing
 
-pub compared-meets : {code store code′ store′ : List ℕ} {s : State} {x : Lowered} (a : Allocated) (o : hir.CompareOp) (w : ℕ) (ls rs : List ByteOperand) (h : hir.At) (n stack : List ℕ)
+pub compared-meets : {code store code′ store′ : List ℕ} {s : State} {x : Lowered} (a : Allocated) (o : hir.CompareOp) (w : ℕ) (ls rs : List ByteOperand) (h : hir.At) (n stack : List ℕ) → h .node ≡ s .counters .node .0
     → Does 1 (texts code store) (s .counters) (comparing o w ls rs) (value bool-type (bit-value (stored-bit (a .id .0)))) (texts code′ store′) (a .counters)
     → x ≡ Lowered.Done (bool-in (a .id)) (behind-new s a)
     → MeetsValue (bufs code store n stack) s (comparing o w ls rs h (counters-in s)) (bufs code′ store′ n stack) x
-compared-meets {s = s} a o w ls rs h n stack d p = rw (p, d .is h) (record { shown = (refl, tt, left-does {s = s} n stack h d) })
+compared-meets {s = s} a o w ls rs h n stack g d p = rw (p, d .is h) (record { shown = (refl, tt, left-does {s = s} n stack h g d) })
 
 pub compared-float : (o : hir.CompareOp) (w : ℕ) (ls rs : List ByteOperand) (h : hir.At) (c : monad.Counters) → compare-op o ≡ none → comparing o w ls rs h c ≡ refused 24 (h .line)
 unfolding comparing allocate-bit-temporary allocate-storage or-refuse _>>=_
@@ -266,9 +267,9 @@ module _ (T : Tables) (d p ty : ℕ) {r : Resolved} (a : Locates (location-at T 
         let c : monad.Counters = record { storage = 0; temporary = 0 } in
         subst (λ (z : Outcome Location). typed-case ty z) (outcome-here e nowhere c) (resolve-typed T (placeAt d T p) ty .is nowhere c)
 
-    pub room-found : {s : State} {stack : List ℕ} → Readable T → TypeRoom T ty 0 s stack → TypeRoom T (l .ty) (l .offset) s stack
+    pub room-found : {n : ℕ} {s : State} {stack : List ℕ} → Readable T → TypeRoom T n ty 0 s stack → TypeRoom T n (l .ty) (l .offset) s stack
     room-found R k =
-        rw found-type (record { room = k .room; top = k .top; reach = omega (arith, a .near l e, R .types .size-most ty) })
+        rw found-type (record { node = k .node; room = k .room; top = k .top; reach = omega (arith, a .near l e, R .types .size-most ty) })
 
     pub read-meets : {b b1 : Bufs} {s : State} {x : Lowered} (h : hir.At) → MeetsValue b s (read-location T (location-from l) h (counters-in s)) b1 x
         → MeetsValue b s (lower-read T (placeAt d T p) ty h (counters-in s)) b1 x

@@ -81,23 +81,23 @@ module _ (T : Tables) (R : TypesRight T) where
       does-allocating (λ t. (location-bytes T t >>= λ ds. (emit (i (first-storage ds) (second-storage T ds)) >> read-location T t)))
       (omega arith) (omega arith) (place-sized T 1 2 (λ z. omega arith) pointer-size a) e (λ h d. filled-behind i k h d)
 
-pub pointer-meets : {k : ℕ} {code store code′ store′ : List ℕ} {s : State} {c2 : Counters} {x : Lowered} {m : Lower Value} (id : StorageId) (h : hir.At) (n stack : List ℕ)
+pub pointer-meets : {k : ℕ} {code store code′ store′ : List ℕ} {s : State} {c2 : Counters} {x : Lowered} {m : Lower Value} (id : StorageId) (h : hir.At) (n stack : List ℕ) → h .node ≡ s .counters .node .0
     → Does k (texts code store) (s .counters) m (pointer-of (id .0)) (texts code′ store′) c2 → x ≡ Lowered.Done (pointer-in id) (record { counters = c2; top = s .top })
     → MeetsValue (bufs code store n stack) s (m h (counters-in s)) (bufs code′ store′ n stack) x
 unfolding pointer-of
-pointer-meets {s = s} id h n stack d p =
-    rw (p, d .is h) (record { shown = (pointer-head id, record { reach-most = omega arith; total-most = omega arith }, left-does {s = s} n stack h d) })
+pointer-meets {s = s} id h n stack g d p =
+    rw (p, d .is h) (record { shown = (pointer-head id, record { reach-most = omega arith; total-most = omega arith }, left-does {s = s} n stack h g d) })
 
-pub function-meets : {code store code′ store′ : List ℕ} {s : State} {c1 c2 : Counters} {x : Lowered} (T : Tables) (R : TypesRight T) (id : StorageId) (f : ℕ) (h : hir.At) (n stack : List ℕ)
+pub function-meets : {code store code′ store′ : List ℕ} {s : State} {c1 c2 : Counters} {x : Lowered} (T : Tables) (R : TypesRight T) (id : StorageId) (f : ℕ) (h : hir.At) (n stack : List ℕ) → h .node ≡ s .counters .node .0
     → Allocates store (s .counters) (allocate-sized 2) (id .0) store′ c1 → Emits code c1 (function-address (byte-of (id .0) 0) (byte-of (id .0) 1) f ∷ []) code′ c2
     → x ≡ Lowered.Done (pointer-in id) (record { counters = c2; top = s .top })
     → MeetsValue (bufs code store n stack) s (lower-function-address T f h (counters-in s)) (bufs code′ store′ n stack) x
 unfolding lower-function-address
-function-meets {s = s} T R id f h n stack a e p = pointer-meets {s = s} id h n stack (filled-does T R (λ x y. function-address x y f) (id .0) a e) p
+function-meets {s = s} T R id f h n stack g a e p = pointer-meets {s = s} id h n stack g (filled-does T R (λ x y. function-address x y f) (id .0) a e) p
 
 -- ---------------------------------------------------------------- narrowing
 
-module _ {code store code′ store′ : List ℕ} {s : State} {c2 : Counters} (T : Tables) (R : TypesRight T) (k o : ℕ) (id : StorageId) (h : hir.At) (n n′ stack : List ℕ)
+module _ {code store code′ store′ : List ℕ} {s : State} {c2 : Counters} (T : Tables) (R : TypesRight T) (k o : ℕ) (id : StorageId) (h : hir.At) (n n′ stack : List ℕ) (g : h .node ≡ s .counters .node .0)
     (d : Does 1 (texts code store) (s .counters) (filled T R (λ x y. address-of x y k o)) (pointer-of (id .0)) (texts code′ store′) c2) where
   narrowing : (b : Bool) → is-one ((storageAt T k) .owner) ≡ b → n′ ≡ marked n (narrowed-by b k)
       → MeetsValue (bufs code store n stack) s (materialize-location-address T k false o h (counters-in s)) (bufs code′ store′ n′ stack) (Lowered.Done (pointer-in id) (record { counters = c2; top = s .top }))
@@ -109,7 +109,7 @@ module _ {code store code′ store′ : List ℕ} {s : State} {c2 : Counters} (T
           pointer-head id,
           record { reach-most = omega arith; total-most = omega arith },
           record {
-            appends = d .appends h;
+            appends = d .appends h g;
             numbers = refl;
             narrows = q;
             parts = [];
@@ -123,16 +123,16 @@ module _ {code store code′ store′ : List ℕ} {s : State} {c2 : Counters} (T
       })
   narrowing false e q =
       rw (e, d .is h, q)
-      (record { shown = (pointer-head id, record { reach-most = omega arith; total-most = omega arith }, left-does {s = s} n stack h d) })
+      (record { shown = (pointer-head id, record { reach-most = omega arith; total-most = omega arith }, left-does {s = s} n stack h g d) })
 
-pub address-meets : {code store code′ store′ : List ℕ} {s : State} {c1 c2 : Counters} {x : Lowered} (rows nodes lists : List ℕ) (c : Counts) (k o : ℕ) (b : Bool) (id : StorageId) (h : hir.At) (n n′ stack : List ℕ)
+pub address-meets : {code store code′ store′ : List ℕ} {s : State} {c1 c2 : Counters} {x : Lowered} (rows nodes lists : List ℕ) (c : Counts) (k o : ℕ) (b : Bool) (id : StorageId) (h : hir.At) (n n′ stack : List ℕ) → h .node ≡ s .counters .node .0
     → TypesRight (tables-of rows nodes lists c) → b ≡ false → n′ ≡ marked n (narrowed-by (is-one (owner-at rows lists c k)) k)
     → Allocates store (s .counters) (allocate-sized 2) (id .0) store′ c1 → Emits code c1 (address-of (byte-of (id .0) 0) (byte-of (id .0) 1) k o ∷ []) code′ c2
     → x ≡ Lowered.Done (pointer-in id) (record { counters = c2; top = s .top })
     → MeetsValue (bufs code store n stack) s (materialize-location-address (tables-of rows nodes lists c) k b o h (counters-in s)) (bufs code′ store′ n′ stack) x
-address-meets {s = s} rows nodes lists c k o b id h n n′ stack R f q a e p =
+address-meets {s = s} rows nodes lists c k o b id h n n′ stack g R f q a e p =
     rw (p, f)
-    (narrowing {s = s} (tables-of rows nodes lists c) R k o id h n n′ stack (filled-does (tables-of rows nodes lists c) R (λ x y. address-of x y k o) (id .0) a e)
+    (narrowing {s = s} (tables-of rows nodes lists c) R k o id h n n′ stack g (filled-does (tables-of rows nodes lists c) R (λ x y. address-of x y k o) (id .0) a e)
     (is-one (owner-at rows lists c k)) (ap is-one (owner-here rows nodes lists c k)) q)
 
 pub address-refused : (T : Tables) (k o : ℕ) (b : Bool) (h : hir.At) (c : monad.Counters) → b ≡ true → materialize-location-address T k b o h c ≡ refused 21 (h .line)

@@ -215,7 +215,7 @@ fn not_zero(rows: &[u64], lists: &[u64], counts: Counts, code: &mut [u8], store:
 // A value as a bit: its own, or whether it is not 0.
 pub fn value_as_bit(rows: &[u64], lists: &[u64], counts: Counts, code: &mut [u8], store: &mut [u8], s: State, v: Value, h: At) -> BitLowered
     requires { ⌜ (Sized counts) × (Sound-value v) × (Room 2 (s .counters)) ⌝ }
-    ensures { λ r. ⌜ ((nodes n stack : List ℕ) → MeetsBit (bufs (now (code .entry)) (now (store .entry)) n stack) s (value-as-bit (tables-of (now (rows .entry)) nodes (now (lists .entry)) counts) (flat-of (head-of v)) (at-of h) (counters-in s)) (bufs (now (code .exit)) (now (store .exit)) n stack) r) ⌝ }
+    ensures { λ r. ⌜ ((nodes n stack : List ℕ) → h .node .0 ≡ s .counters .node .0 → MeetsBit (bufs (now (code .entry)) (now (store .entry)) n stack) s (value-as-bit (tables-of (now (rows .entry)) nodes (now (lists .entry)) counts) (flat-of (head-of v)) (at-of h) (counters-in s)) (bufs (now (code .exit)) (now (store .exit)) n stack) r) ⌝ }
 {
     let counters = s.counters;
     match value_bit(v) {
@@ -229,7 +229,7 @@ pub fn value_as_bit(rows: &[u64], lists: &[u64], counts: Counts, code: &mut [u8]
 
 pub fn integer_to_bool(rows: &[u64], lists: &[u64], counts: Counts, code: &mut [u8], store: &mut [u8], s: State, v: Value, h: At) -> Lowered
     requires { ⌜ (Sized counts) × (Sound-value v) × (Room 2 (s .counters)) ⌝ }
-    ensures { λ r. ⌜ ((nodes n stack : List ℕ) → MeetsValue (bufs (now (code .entry)) (now (store .entry)) n stack) s (integer-to-bool (tables-of (now (rows .entry)) nodes (now (lists .entry)) counts) (flat-of (head-of v)) (at-of h) (counters-in s)) (bufs (now (code .exit)) (now (store .exit)) n stack) r) ⌝ }
+    ensures { λ r. ⌜ ((nodes n stack : List ℕ) → h .node .0 ≡ s .counters .node .0 → MeetsValue (bufs (now (code .entry)) (now (store .entry)) n stack) s (integer-to-bool (tables-of (now (rows .entry)) nodes (now (lists .entry)) counts) (flat-of (head-of v)) (at-of h) (counters-in s)) (bufs (now (code .exit)) (now (store .exit)) n stack) r) ⌝ }
 {
     let counters = s.counters;
     match not_zero(rows, lists, counts, code, store, counters, Purpose::IntegerToBoolean, v) {
@@ -268,7 +268,7 @@ pub fn compare_op(op: u64) -> Comparison
 // Bytes compared; floats are refused.
 fn compared(code: &mut [u8], store: &mut [u8], s: State, op: Comparison, width: u64, l: Bytes, r: Bytes, h: At) -> Lowered
     requires { ⌜ (Small l) × (Small r) × (Room 2 (s .counters)) ⌝ }
-    ensures { λ res. ⌜ ((o : hir.CompareOp) (n stack : List ℕ) → compare-op o ≡ comparison-option op → MeetsValue (bufs (now (code .entry)) (now (store .entry)) n stack) s (comparing o width (bytes-of l) (bytes-of r) (at-of h) (counters-in s)) (bufs (now (code .exit)) (now (store .exit)) n stack) res) ⌝ }
+    ensures { λ res. ⌜ ((o : hir.CompareOp) (n stack : List ℕ) → compare-op o ≡ comparison-option op → h .node .0 ≡ s .counters .node .0 → MeetsValue (bufs (now (code .entry)) (now (store .entry)) n stack) s (comparing o width (bytes-of l) (bytes-of r) (at-of h) (counters-in s)) (bufs (now (code .exit)) (now (store .exit)) n stack) res) ⌝ }
 {
     let counters = s.counters;
     match op {
@@ -280,7 +280,7 @@ fn compared(code: &mut [u8], store: &mut [u8], s: State, op: Comparison, width: 
 // The width is looked at before the operands, and the operator last.
 pub fn lower_compare(rows: &[u64], lists: &[u64], counts: Counts, code: &mut [u8], store: &mut [u8], s: State, op: u64, l: Value, r: Value, h: At) -> Lowered
     requires { ⌜ (Sized counts) × (Sound-value l) × (Sound-value r) × (Room 2 (s .counters)) ⌝ }
-    ensures { λ res. ⌜ ((nodes n stack : List ℕ) → MeetsValue (bufs (now (code .entry)) (now (store .entry)) n stack) s (lower-compare (tables-of (now (rows .entry)) nodes (now (lists .entry)) counts) (ticket.compare-op op) (flat-of (head-of l)) (flat-of (head-of r)) (at-of h) (counters-in s)) (bufs (now (code .exit)) (now (store .exit)) n stack) res) ⌝ }
+    ensures { λ res. ⌜ ((nodes n stack : List ℕ) → h .node .0 ≡ s .counters .node .0 → MeetsValue (bufs (now (code .entry)) (now (store .entry)) n stack) s (lower-compare (tables-of (now (rows .entry)) nodes (now (lists .entry)) counts) (ticket.compare-op op) (flat-of (head-of l)) (flat-of (head-of r)) (at-of h) (counters-in s)) (bufs (now (code .exit)) (now (store .exit)) n stack) res) ⌝ }
 {
     match integer_width(rows, lists, counts, l.ty) {
         Width::Absent => Lowered::Refused(23, h.line),
@@ -298,7 +298,7 @@ pub fn lower_compare(rows: &[u64], lists: &[u64], counts: Counts, code: &mut [u8
 
 // The value of type ty that place line p leads to.
 pub fn lower_read(rows: &[u64], nodes: &[u64], lists: &[u64], counts: Counts, code: &mut [u8], store: &mut [u8], stack: &mut [u64], s: State, depth: u64, p: u64, ty: u64, h: At) -> Lowered
-    requires { ⌜ (Readable (tables-of (now rows) (now nodes) (now lists) counts)) × (TypeRoom (tables-of (now rows) (now nodes) (now lists) counts) ty 0 s (now stack)) ⌝ }
+    requires { ⌜ (Readable (tables-of (now rows) (now nodes) (now lists) counts)) × (TypeRoom (tables-of (now rows) (now nodes) (now lists) counts) (h .node .0) ty 0 s (now stack)) ⌝ }
     ensures { λ r. ⌜ ((n : List ℕ) → MeetsValue (bufs (now (code .entry)) (now (store .entry)) n (now (stack .entry))) s (lower-read (tables-of (now (rows .entry)) (now (nodes .entry)) (now (lists .entry)) counts) (placeAt depth (tables-of (now (rows .entry)) (now (nodes .entry)) (now (lists .entry)) counts) p) ty (at-of h) (counters-in s)) (bufs (now (code .exit)) (now (store .exit)) n (now (stack .exit))) r) ⌝ }
 {
     match places::resolve_place(rows, nodes, lists, counts, depth, p, ty) {
@@ -331,7 +331,7 @@ pub fn pointer_value(s: State, id: StorageId, counters: Counters) -> Lowered
 
 pub fn lower_function_address(code: &mut [u8], store: &mut [u8], s: State, f: u64) -> Lowered
     requires { ⌜ Room 2 (s .counters) ⌝ }
-    ensures { λ r. ⌜ ((T : Tables) (h : hir.At) (n stack : List ℕ) → TypesRight T → MeetsValue (bufs (now (code .entry)) (now (store .entry)) n stack) s (lower-function-address T f h (counters-in s)) (bufs (now (code .exit)) (now (store .exit)) n stack) r) ⌝ }
+    ensures { λ r. ⌜ ((T : Tables) (h : hir.At) (n stack : List ℕ) → TypesRight T → h .node ≡ s .counters .node .0 → MeetsValue (bufs (now (code .entry)) (now (store .entry)) n stack) s (lower-function-address T f h (counters-in s)) (bufs (now (code .exit)) (now (store .exit)) n stack) r) ⌝ }
 {
     let counters = s.counters;
     let new = addressing::allocate_pointer(store, counters);
@@ -358,7 +358,7 @@ fn narrow(rows: &[u64], lists: &[u64], counts: Counts, narrowed: &mut [u64], s: 
 // The address of byte o of a storage, in a new pointer; a bit has none.
 fn storage_address(rows: &[u64], lists: &[u64], counts: Counts, code: &mut [u8], store: &mut [u8], narrowed: &mut [u64], s: State, storage: StorageId, bit: bool, o: u64, h: At) -> Lowered
     requires { ⌜ (Sized counts) × (Room 2 (s .counters)) ⌝ }
-    ensures { λ r. ⌜ ((nodes stack : List ℕ) → TypesRight (tables-of (now (rows .entry)) nodes (now (lists .entry)) counts) → MeetsValue (bufs (now (code .entry)) (now (store .entry)) (now (narrowed .entry)) stack) s (materialize-location-address (tables-of (now (rows .entry)) nodes (now (lists .entry)) counts) (storage .0) bit o (at-of h) (counters-in s)) (bufs (now (code .exit)) (now (store .exit)) (now (narrowed .exit)) stack) r) ⌝ }
+    ensures { λ r. ⌜ ((nodes stack : List ℕ) → TypesRight (tables-of (now (rows .entry)) nodes (now (lists .entry)) counts) → h .node .0 ≡ s .counters .node .0 → MeetsValue (bufs (now (code .entry)) (now (store .entry)) (now (narrowed .entry)) stack) s (materialize-location-address (tables-of (now (rows .entry)) nodes (now (lists .entry)) counts) (storage .0) bit o (at-of h) (counters-in s)) (bufs (now (code .exit)) (now (store .exit)) (now (narrowed .exit)) stack) r) ⌝ }
 {
     if bit {
         return Lowered::Refused(21, h.line);
@@ -375,7 +375,7 @@ fn storage_address(rows: &[u64], lists: &[u64], counts: Counts, code: &mut [u8],
 // The static's own offset is not added.
 pub fn lower_static_address(rows: &[u64], lists: &[u64], counts: Counts, code: &mut [u8], store: &mut [u8], narrowed: &mut [u64], s: State, k: u64, o: u64, h: At) -> Lowered
     requires { ⌜ (Sized counts) × (Room 2 (s .counters)) ⌝ }
-    ensures { λ r. ⌜ ((nodes stack : List ℕ) → TypesRight (tables-of (now (rows .entry)) nodes (now (lists .entry)) counts) → MeetsValue (bufs (now (code .entry)) (now (store .entry)) (now (narrowed .entry)) stack) s (lower-static-address (tables-of (now (rows .entry)) nodes (now (lists .entry)) counts) k o (at-of h) (counters-in s)) (bufs (now (code .exit)) (now (store .exit)) (now (narrowed .exit)) stack) r) ⌝ }
+    ensures { λ r. ⌜ ((nodes stack : List ℕ) → TypesRight (tables-of (now (rows .entry)) nodes (now (lists .entry)) counts) → h .node .0 ≡ s .counters .node .0 → MeetsValue (bufs (now (code .entry)) (now (store .entry)) (now (narrowed .entry)) stack) s (lower-static-address (tables-of (now (rows .entry)) nodes (now (lists .entry)) counts) k o (at-of h) (counters-in s)) (bufs (now (code .exit)) (now (store .exit)) (now (narrowed .exit)) stack) r) ⌝ }
 {
     match tables::static_at(rows, lists, counts, k) {
         PlacedAt::Missing => Lowered::Refused(20, h.line),
@@ -386,7 +386,7 @@ pub fn lower_static_address(rows: &[u64], lists: &[u64], counts: Counts, code: &
 // The address that place line p leads to.
 pub fn lower_address_of(rows: &[u64], nodes: &[u64], lists: &[u64], counts: Counts, code: &mut [u8], store: &mut [u8], narrowed: &mut [u64], s: State, depth: u64, p: u64, h: At) -> Lowered
     requires { ⌜ (Readable (tables-of (now rows) (now nodes) (now lists) counts)) × (Room 2 (s .counters)) ⌝ }
-    ensures { λ r. ⌜ ((stack : List ℕ) → MeetsValue (bufs (now (code .entry)) (now (store .entry)) (now (narrowed .entry)) stack) s (lower-address-of (tables-of (now (rows .entry)) (now (nodes .entry)) (now (lists .entry)) counts) (placeAt depth (tables-of (now (rows .entry)) (now (nodes .entry)) (now (lists .entry)) counts) p) (at-of h) (counters-in s)) (bufs (now (code .exit)) (now (store .exit)) (now (narrowed .exit)) stack) r) ⌝ }
+    ensures { λ r. ⌜ ((stack : List ℕ) → h .node .0 ≡ s .counters .node .0 → MeetsValue (bufs (now (code .entry)) (now (store .entry)) (now (narrowed .entry)) stack) s (lower-address-of (tables-of (now (rows .entry)) (now (nodes .entry)) (now (lists .entry)) counts) (placeAt depth (tables-of (now (rows .entry)) (now (nodes .entry)) (now (lists .entry)) counts) p) (at-of h) (counters-in s)) (bufs (now (code .exit)) (now (store .exit)) (now (narrowed .exit)) stack) r) ⌝ }
 {
     match places::resolve_addressed_place(rows, nodes, lists, counts, depth, p) {
         Based::Refused(n) => Lowered::Refused(n, h.line),

@@ -109,12 +109,12 @@ drop-bit {x = x} {b2} {r} a h k = record { shown = drop-bit-case a h x b2 r (k .
 
 -- what a step has done that leaves no records
 pub left-does : {A : Type 0} {k : ℕ} {code store code′ store′ : List ℕ} {s : State} {m : Lower A} {a : A} {c1 : Counters} (n stack : List ℕ) (h : At)
-    (d : Does k (texts code store) (s .counters) m a (texts code′ store′) c1)
+    → h .node ≡ s .counters .node .0 → (d : Does k (texts code store) (s .counters) m a (texts code′ store′) c1)
     → Left (bufs code store n stack) s [] (counters-of c1) (out (d .storages) (d .kinds) h) (bufs code′ store′ n stack) (record { counters = c1; top = s .top })
 unfolding marked values-words
-left-does {s = s} n stack h d =
+left-does {s = s} n stack h e d =
     record {
-      appends = d .appends h;
+      appends = d .appends h e;
       numbers = refl;
       narrows = refl;
       parts = [];
@@ -134,16 +134,16 @@ then-case a (refused i j) b2 (Lowered.Refused i′ j′) k = k
 
 -- a step that appends, and then one that answers a value
 module _ {A : Type 0} {n : ℕ} {code store code1 store1 : List ℕ} {s : State} {m : Lower A} {a : A} {c1 : Counters} {b2 : Bufs} {r : Lowered} (h : At) (ns stack : List ℕ)
-    (d : Does n (texts code store) (s .counters) m a (texts code1 store1) c1) where
+    (e : h .node ≡ s .counters .node .0) (d : Does n (texts code store) (s .counters) m a (texts code1 store1) c1) where
   pub does-meets : (f : A → Lower Value) → MeetsValue (bufs code1 store1 ns stack) (record { counters = c1; top = s .top }) (f a h (counters-of c1)) b2 r
       → MeetsValue (bufs code store ns stack) s ((m >>= f) h (counters-in s)) b2 r
   unfolding _>>=_
-  does-meets f k = rw (d .is h) (record { shown = then-case (left-does {s = s} ns stack h d) (f a h (counters-of c1)) b2 r (k .shown) })
+  does-meets f k = rw (d .is h) (record { shown = then-case (left-does {s = s} ns stack h e d) (f a h (counters-of c1)) b2 r (k .shown) })
 
   pub next-meets : (p : Lower Value) → MeetsValue (bufs code1 store1 ns stack) (record { counters = c1; top = s .top }) (p h (counters-of c1)) b2 r
       → MeetsValue (bufs code store ns stack) s ((m >> p) h (counters-in s)) b2 r
   unfolding _>>_
-  next-meets p k = rw (d .is h) (record { shown = then-case (left-does {s = s} ns stack h d) (p h (counters-of c1)) b2 r (k .shown) })
+  next-meets p k = rw (d .is h) (record { shown = then-case (left-does {s = s} ns stack h e d) (p h (counters-of c1)) b2 r (k .shown) })
 
 -- ws stored at t, below what was left above t + n
 under : (l l1 ws xs : List ℕ) (t n m : ℕ) → length ws ≡ n → t + n ≤ length l → length l1 ≡ length l → take (t + n + m) l1 ≡ take (t + n) l ++ xs → take (t + n + m) (sets l1 t ws) ≡ take t l ++ (ws ++ xs)

@@ -52,9 +52,21 @@ impl Answer {
     }
 }
 
-/// Answers a ticket, with a buffer of `room` bytes.
+/// Answers a ticket as document 01 has it, with a buffer of `room` bytes.
 pub fn answer(ticket: &[u8], room: usize) -> Answer {
-    match ticket::read(ticket).and_then(|ticket| Prepared::new(&ticket).listing(room)) {
+    answered(ticket::read(ticket).and_then(|ticket| Prepared::new(&ticket).listing(room)))
+}
+
+/// The same with each instruction's node (document 02, E7). The original
+/// knows no nodes: each tree below the root is lowered alone, and counted.
+pub fn answer_with_nodes(ticket: &[u8], room: usize) -> Answer {
+    answered(
+        ticket::read(ticket).and_then(|ticket| Prepared::new(&ticket).listing_with_nodes(room)),
+    )
+}
+
+fn answered(listing: Result<Vec<u8>, Refusal>) -> Answer {
+    match listing {
         Ok(listing) => Answer::Accepted(listing),
         Err(refusal) => Answer::Refused(refusal),
     }

@@ -51,8 +51,9 @@ fn is_narrowed(storage: &Storage<VirtualPlacement>) -> bool {
     storage.placement.allowed_regions == [StorageRegion::ShadowStack]
 }
 
-/// The listing of a run.
-pub fn print(ticket: &Ticket, types: &[hir::Type], run: &Run) -> Vec<u8> {
+/// The listing of a run; with `nodes`, each instruction's line ends in its
+/// node (document 02, E7).
+pub fn print(ticket: &Ticket, types: &[hir::Type], run: &Run, nodes: Option<&[usize]>) -> Vec<u8> {
     let older = ticket.storages.len();
     let mut out = Out(Vec::with_capacity(1_024));
     for storage in &run.storages[older..] {
@@ -61,9 +62,13 @@ pub fn print(ticket: &Ticket, types: &[hir::Type], run: &Run) -> Vec<u8> {
     for storage in run.storages[..older].iter().filter(|s| is_narrowed(s)) {
         out.word("narrowed").number(storage.id.0).end();
     }
-    for instruction in &run.instructions {
+    for (index, instruction) in run.instructions.iter().enumerate() {
         out.word("i");
-        out.instruction(&instruction.kind).end();
+        out.instruction(&instruction.kind);
+        if let Some(nodes) = nodes {
+            out.number(nodes[index]);
+        }
+        out.end();
     }
     out.value(types, &run.value);
     out.word("done")

@@ -27,6 +27,13 @@ use crate::{
 const OFFSET: usize = 65_535;
 const PARTS: usize = 4_096;
 
+fn fitted(listing: Vec<u8>, room: usize) -> Result<Vec<u8>, Refusal> {
+    if listing.len() > room {
+        return Err(Refusal::new(28, 0));
+    }
+    Ok(listing)
+}
+
 /// A ticket as the original's trees.
 pub struct Prepared<'a> {
     ticket: &'a Ticket,
@@ -56,14 +63,33 @@ impl<'a> Prepared<'a> {
         prepared
     }
 
-    /// The listing, or the first refusal of lowering, or 28.
+    /// Document 01's listing, or the first refusal of lowering, or 28.
     pub fn listing(&self, room: usize) -> Result<Vec<u8>, Refusal> {
         let run = self.lower()?;
-        let listing = listing::print(self.ticket, &self.types, &run);
-        if listing.len() > room {
-            return Err(Refusal::new(28, 0));
+        fitted(listing::print(self.ticket, &self.types, &run, None), room)
+    }
+
+    /// The listing whose instructions name their nodes (document 02, E7), or
+    /// a refusal likewise.
+    pub fn listing_with_nodes(&self, room: usize) -> Result<Vec<u8>, Refusal> {
+        let run = self.lower()?;
+        let mut nodes = Vec::with_capacity(run.instructions.len());
+        self.append_nodes(self.last(), &mut nodes);
+        let listing = listing::print(self.ticket, &self.types, &run, Some(&nodes));
+        fitted(listing, room)
+    }
+
+    /// The node of each instruction of an accepted tree: those of the
+    /// operands come first, in the order in which the original lowers them,
+    /// and what is left of the tree's instructions is the node's own.
+    fn append_nodes(&self, node: usize, nodes: &mut Vec<usize>) {
+        let before = nodes.len();
+        for operand in operands(&self.ticket.nodes[node].kind) {
+            self.append_nodes(operand, nodes);
         }
-        Ok(listing)
+        let alone = self.start.lower_expression(&self.expression(node));
+        let count = alone.map_or(0, |run| run.instructions.len());
+        nodes.resize(before + count, node);
     }
 
     /// Whether the original lowers the root: one call, nothing else. For

@@ -139,6 +139,6 @@ mod tests {
         let mut parts = room.parts();
         (parts.code, parts.store) = (&mut [], &mut []);
         let answer = lower_in(tickets::PRINTED, &mut buffer, parts);
-        assert_eq!(answer, Answer::Accepted(136));
+        assert_eq!(answer, Answer::Accepted(142));
     }
 }

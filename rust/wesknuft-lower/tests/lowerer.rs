@@ -78,7 +78,7 @@ fn a_thread_that_ends() {
     struct Last;
     impl Drop for Last {
         fn drop(&mut self) {
-            assert_eq!(lower(tickets::PRINTED, &mut [0; 200]), Ok(136));
+            assert_eq!(lower(tickets::PRINTED, &mut [0; 200]), Ok(142));
         }
     }
     thread_local!(static LAST: Last = const { Last });

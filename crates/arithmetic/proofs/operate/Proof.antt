@@ -45,7 +45,7 @@ same-length-5 : tie.Need-same-length-5
 same-length-5 c = search needs
 
 returns-2 : tie.Need-returns-2
-returns-2 c = λ m. read-after _ _ _ _ (at-of (c .before .before .before .before .before .before .before .before .before .before .before .before .before .before .before .before .before .before .before .before .before .before .before .before .before .before .before .before .before .before .before .args .h)) m _ (filled-placed (c .before .before .before .before .before .before .before .before .before .before .before .before .before .before .before .before .before .before .before .fill-temporary .ensures _ (c .before .before .before .before .before .before .before .before .before .before .before .before .before .before .before .before .before .before .before .before .before .before .integer-width .ensures (c .before .before .before .before .before .before .before .before .before .before .before .before .before .before .before .before .before .before .before .before .before .before .before .before .before .before .before .before .before .before .before .args .nodes .now)) (size-here _ _ _ _ _ ∙ sym (c .before .before .before .before .before .before .before .before .before .before .before .before .before .before .before .before .before .before .before .before .before .before .before .type-size .ensures))) (c .before .before .before .before .before .before .before .before .before .before .before .before .before .new .given .1)) (c .before .before .before .before .before .before .read-location .ensures m)
+returns-2 c = λ m. read-after _ _ _ _ (at-of (c .before .before .before .before .before .before .before .before .before .before .before .before .before .before .before .before .before .before .before .before .before .before .before .before .before .before .before .before .before .before .before .args .h)) m _ (c .before .before .before .before .before .before .before .before .before .before .before .before .before .before .before .before .before .before .before .before .before .before .before .before .before .before .before .before .before .before .before .pre .2 .node) (filled-placed (c .before .before .before .before .before .before .before .before .before .before .before .before .before .before .before .before .before .before .before .fill-temporary .ensures _ (c .before .before .before .before .before .before .before .before .before .before .before .before .before .before .before .before .before .before .before .before .before .before .integer-width .ensures (c .before .before .before .before .before .before .before .before .before .before .before .before .before .before .before .before .before .before .before .before .before .before .before .before .before .before .before .before .before .before .before .args .nodes .now)) (size-here _ _ _ _ _ ∙ sym (c .before .before .before .before .before .before .before .before .before .before .before .before .before .before .before .before .before .before .before .before .before .before .before .type-size .ensures))) (c .before .before .before .before .before .before .before .before .before .before .before .before .before .new .given .1)) (c .before .before .before .before .before .before .read-location .ensures m)
 
 pub operate-spec : {M : Type 1} → statement M
 operate-spec =

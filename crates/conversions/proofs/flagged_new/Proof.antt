@@ -38,7 +38,7 @@ same-length-4 c = search needs
 
 returns-2 : tie.Need-returns-2
 unfolding flagged-new
-returns-2 c = λ m. new-meets (at-of (c .before .before .before .before .before .before .before .before .before .before .before .before .before .before .before .before .before .before .before .before .before .before .before .before .before .before .args .h)) m _ _ (omega (arith, c .before .before .before .before .before .before .before .before .before .before .before .before .before .before .before .before .before .before .before .before .before .before .before .before .before .before .good .1 .1 .1 .1 .0)) (omega (arith, c .before .before .before .before .before .before .before .before .before .before .before .before .before .before .before .before .before .before .before .before .before .before .before .before .before .before .good .1 .1 .1 .1 .1 .1 .1 .0)) (temporary-placed (c .before .before .before .before .before .before .before .before .before .before .before .before .before .before .before .before .before .byte-temporary .ensures) (c .before .before .before .before .before .before .before .before .before .before .before .before .before .new .given .1)) (c .before .before .before .before .before .before .flagged .ensures m)
+returns-2 c = λ m. new-meets (at-of (c .before .before .before .before .before .before .before .before .before .before .before .before .before .before .before .before .before .before .before .before .before .before .before .before .before .before .args .h)) m _ _ (omega (arith, c .before .before .before .before .before .before .before .before .before .before .before .before .before .before .before .before .before .before .before .before .before .before .before .before .before .before .good .1 .1 .1 .1 .0)) (omega (arith, c .before .before .before .before .before .before .before .before .before .before .before .before .before .before .before .before .before .before .before .before .before .before .before .before .before .before .good .1 .1 .1 .1 .1 .1 .1 .0)) (c .before .before .before .before .before .before .before .before .before .before .before .before .before .before .before .before .before .before .before .before .before .before .before .before .before .before .pre .1 .node) (temporary-placed (c .before .before .before .before .before .before .before .before .before .before .before .before .before .before .before .before .before .byte-temporary .ensures) (c .before .before .before .before .before .before .before .before .before .before .before .before .before .new .given .1)) (c .before .before .before .before .before .before .flagged .ensures m)
 
 pub flagged-new-spec : {M : Type 1} → statement M
 flagged-new-spec =

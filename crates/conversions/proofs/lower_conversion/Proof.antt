@@ -92,7 +92,7 @@ same-length-11 : tie.Need-same-length-11
 same-length-11 c = search needs
 
 returns-5 : tie.Need-returns-5
-returns-5 c = λ n z. meets-as (convert-to-boolean _ _ _ _ (at-of (c .before .before .before .before .before .before .before .before .before .before .before .before .before .before .before .before .args .h)) _ (rw (c .before .before .before .before .before .before .before .enum-told5 .given .1) at (c .before .before .before .before .before .before .before .before .before .conversion-form .ensures))) (c .before .before .before .before .integer-to-bool .ensures _ n _)
+returns-5 c = λ n z. meets-as (convert-to-boolean _ _ _ _ (at-of (c .before .before .before .before .before .before .before .before .before .before .before .before .before .before .before .before .args .h)) _ (rw (c .before .before .before .before .before .before .before .enum-told5 .given .1) at (c .before .before .before .before .before .before .before .before .before .conversion-form .ensures))) (c .before .before .before .before .integer-to-bool .ensures _ n _ (c .before .before .before .before .before .before .before .before .before .before .before .before .before .before .before .before .pre .2 .node))
 
 returns-6 : tie.Need-returns-6
 returns-6 c = λ n z. value-stops (convert-float _ _ _ _ (at-of (c .before .before .before .before .before .before .before .before .before .args .h)) _ (rw (c .enum-told6 .given .1) at (c .before .before .conversion-form .ensures)))

@@ -29,10 +29,10 @@ offset-bytes-requires : tie.Need-offset-bytes-requires
 offset-bytes-requires c κs = (rw (c .before .before .before .before .before .before .before .base .given .1) at (c .before .before .before .before .before .before .before .before .before .value-bytes .ensures .small), rw (c .before .before .before .offset .given .1) at (c .before .before .before .before .before .value-bytes2 .ensures .small), c .before .before .before .before .before .before .before .before .before .before .before .before .pre .2)
 
 returns : tie.Need-returns
-returns c = λ T n stack R. value-stops (offset-no-base _ _ _ (at-of (c .before .before .before .before .before .args .h)) _ (rw (c .enum-told .given .1) at (c .before .before .value-bytes .ensures .is)))
+returns c = λ T n stack R nd. value-stops (offset-no-base _ _ _ (at-of (c .before .before .before .before .before .args .h)) _ (rw (c .enum-told .given .1) at (c .before .before .value-bytes .ensures .is)))
 
 returns-2 : tie.Need-returns-2
-returns-2 c = λ T n stack R. value-stops (offset-no-offset _ _ _ (at-of (c .before .before .before .before .before .before .before .before .before .args .h)) _ (rw (c .before .before .before .before .base .given .1) at (c .before .before .before .before .before .before .value-bytes .ensures .is)) (rw (c .enum-told2 .given .1) at (c .before .before .value-bytes2 .ensures .is)))
+returns-2 c = λ T n stack R nd. value-stops (offset-no-offset _ _ _ (at-of (c .before .before .before .before .before .before .before .before .before .args .h)) _ (rw (c .before .before .before .before .base .given .1) at (c .before .before .before .before .before .before .value-bytes .ensures .is)) (rw (c .enum-told2 .given .1) at (c .before .before .value-bytes2 .ensures .is)))
 
 same-length : tie.Need-same-length
 same-length c = search needs
@@ -41,7 +41,7 @@ same-length-2 : tie.Need-same-length-2
 same-length-2 c = search needs
 
 returns-3 : tie.Need-returns-3
-returns-3 c = λ T n stack R. meets-as (offset-behind _ _ _ (at-of (c .before .before .before .before .before .before .before .before .before .before .before .before .before .before .before .before .before .args .h)) _ (rw (c .before .before .before .before .before .before .before .before .before .before .before .before .base .given .1) at (c .before .before .before .before .before .before .before .before .before .before .before .before .before .before .value-bytes .ensures .is)) (rw (c .before .before .before .before .before .before .before .before .offset .given .1) at (c .before .before .before .before .before .before .before .before .before .before .value-bytes2 .ensures .is))) (c .before .before .before .before .offset-bytes .ensures T n stack R)
+returns-3 c = λ T n stack R nd. meets-as (offset-behind _ _ _ (at-of (c .before .before .before .before .before .before .before .before .before .before .before .before .before .before .before .before .before .args .h)) _ (rw (c .before .before .before .before .before .before .before .before .before .before .before .before .base .given .1) at (c .before .before .before .before .before .before .before .before .before .before .before .before .before .before .value-bytes .ensures .is)) (rw (c .before .before .before .before .before .before .before .before .offset .given .1) at (c .before .before .before .before .before .before .before .before .before .before .value-bytes2 .ensures .is))) (c .before .before .before .before .offset-bytes .ensures T n stack R nd)
 
 pub lower-pointer-offset-spec : {M : Type 1} → statement M
 lower-pointer-offset-spec =

@@ -24,7 +24,7 @@ same-length-2 : tie.Need-same-length-2
 same-length-2 c = search needs
 
 returns : tie.Need-returns
-returns c = λ T h n stack R. offset-meets T R (c .before .before .before .before .before .before .before .before .before .before .before .before .before .before .allocate-pointer .result .id) (c .before .before .before .before .before .before .before .before .allocate-carry .result .id) _ _ h n stack (omega arith) (omega (arith, c .before .before .before .before .before .before .before .before .before .before .before .before .before .before .before .before .before .before .before .good .1 .1 .0)) (c .before .before .before .before .before .before .before .before .before .before .before .before .before .before .allocate-pointer .ensures) (c .before .before .before .before .before .before .before .before .allocate-carry .ensures) (c .before .before .before .add-bytes .ensures) (c .pointer-value .ensures)
+returns c = λ T h n stack R nd. offset-meets T R (c .before .before .before .before .before .before .before .before .before .before .before .before .before .before .allocate-pointer .result .id) (c .before .before .before .before .before .before .before .before .allocate-carry .result .id) _ _ h n stack (omega arith) (omega (arith, c .before .before .before .before .before .before .before .before .before .before .before .before .before .before .before .before .before .before .before .good .1 .1 .0)) nd (c .before .before .before .before .before .before .before .before .before .before .before .before .before .before .allocate-pointer .ensures) (c .before .before .before .before .before .before .before .before .allocate-carry .ensures) (c .before .before .before .add-bytes .ensures) (c .pointer-value .ensures)
 
 pub offset-by-spec : {M : Type 1} → statement M
 offset-by-spec =

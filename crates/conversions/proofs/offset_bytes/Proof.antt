@@ -9,7 +9,7 @@ use Rattle.conversions.proofs.offset_bytes.Statement.{statement}
 use Rattle.conversions.proofs.offset_bytes.Tie as tie
 
 returns : tie.Need-returns
-returns c = λ T n stack R. value-stops (offset-short T (c .before .before .before .before .args .base) _ (at-of (c .before .before .before .before .args .h)) _ (c .if1 .taken))
+returns c = λ T n stack R nd. value-stops (offset-short T (c .before .before .before .before .args .base) _ (at-of (c .before .before .before .before .args .h)) _ (c .if1 .taken))
 
 resize-requires : tie.Need-resize-requires
 resize-requires c κs = search needs
@@ -27,7 +27,7 @@ same-length-2 : tie.Need-same-length-2
 same-length-2 c = search needs
 
 returns-2 : tie.Need-returns-2
-returns-2 c = λ T n stack R. meets-as (offset-resized T _ _ (at-of (c .before .before .before .before .before .before .before .before .before .before .before .before .before .args .h)) _ (omega (arith, c .before .before .before .before .before .before .before .before .before .if1 .left)) (c .before .before .before .before .before .before .resize .ensures) (c .before .before .before .before .before .resize2 .ensures)) (c .before .before .before .before .offset-by .ensures T (at-of (c .before .before .before .before .before .before .before .before .before .before .before .before .before .args .h)) n stack R)
+returns-2 c = λ T n stack R nd. meets-as (offset-resized T _ _ (at-of (c .before .before .before .before .before .before .before .before .before .before .before .before .before .args .h)) _ (omega (arith, c .before .before .before .before .before .before .before .before .before .if1 .left)) (c .before .before .before .before .before .before .resize .ensures) (c .before .before .before .before .before .resize2 .ensures)) (c .before .before .before .before .offset-by .ensures T (at-of (c .before .before .before .before .before .before .before .before .before .before .before .before .before .args .h)) n stack R nd)
 
 pub offset-bytes-spec : {M : Type 1} → statement M
 offset-bytes-spec =

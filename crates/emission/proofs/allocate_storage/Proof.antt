@@ -18,16 +18,17 @@ same-length c = search needs
 returns : tie.Need-returns
 unfolding allocate-storage
 returns c =
-    let next = c .before .before .before .before .before .advance in
-    let a = c .before .before .before .before .before .before .before .args in
+    let next = c .before .before .before .before .before .before .advance in
+    let a = c .before .before .before .before .before .before .before .before .args in
     record {
       new = record { id = next .result .id .0; kind = storage-kind-of (a .kind); purpose = purpose-of (a .purpose); number = a .c .temporary; regions = a .regions };
       is = λ h. rw (next .ensures .0, next .ensures .1, next .ensures .2);
-      stored = c .before .before .print-storage .ensures;
+      stored = c .before .before .before .print-storage .ensures;
       at = refl;
       counted = refl;
       storage = next .ensures .1;
       temporary = next .ensures .2;
+      node = refl;
     }
 
 pub allocate-storage-spec : {M : Type 1} → statement M

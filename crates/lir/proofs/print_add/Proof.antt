@@ -1,7 +1,7 @@
 -- The line by its parts.
 use borrow.Author.Needs.{needs}
-use Rattle.lir.specs.PutFields.{whole-instruction}
-use Rattle.spec.specs.Print.{instruction-line, instruction-fields}
+use Rattle.lir.specs.PutFields.{kind-put}
+use Rattle.spec.specs.Print.{instruction-fields}
 use Rattle.lir.proofs.print_add.Statement.{statement}
 use Rattle.lir.proofs.print_add.Tie as tie
 
@@ -14,15 +14,12 @@ print-bytes-requires c κs = search needs
 sum-fields-requires : tie.Need-sum-fields-requires
 sum-fields-requires c κs = search needs
 
-put-requires : tie.Need-put-requires
-put-requires c κs = search needs
-
 same-length : tie.Need-same-length
 same-length c = search needs
 
 returns : tie.Need-returns
-unfolding instruction-line instruction-fields
-returns c = whole-instruction (c .before .before .before .before .before .before .before .before .before .before .print-bytes .ensures) (c .before .before .before .before .before .before .sum-fields .ensures) (c .before .before .put .ensures)
+unfolding instruction-fields
+returns c = kind-put (c .before .before .before .before .before .before .print-bytes .ensures) (c .before .before .sum-fields .ensures)
 
 pub print-add-spec : {M : Type 1} → statement M
 print-add-spec =
@@ -31,6 +28,5 @@ print-add-spec =
     slice-aggregate-print-bytes
     print-bytes-requires
     sum-fields-requires
-    put-requires
     same-length
     returns)

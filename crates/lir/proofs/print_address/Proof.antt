@@ -1,7 +1,7 @@
 -- The line by its parts.
 use borrow.Author.Needs.{needs}
-use Rattle.lir.specs.PutFields.{whole-instruction, others}
-use Rattle.spec.specs.Print.{instruction-line, instruction-fields}
+use Rattle.lir.specs.PutFields.{kind-put, others}
+use Rattle.spec.specs.Print.{instruction-fields}
 use Rattle.lir.proofs.print_address.Statement.{statement}
 use Rattle.lir.proofs.print_address.Tie as tie
 
@@ -17,15 +17,12 @@ two-places-requires c κs = search needs
 two-numbers-requires : tie.Need-two-numbers-requires
 two-numbers-requires c κs = search needs
 
-put-requires : tie.Need-put-requires
-put-requires c κs = search needs
-
 same-length : tie.Need-same-length
 same-length c = search needs
 
 returns : tie.Need-returns
-unfolding instruction-line instruction-fields
-returns c = whole-instruction (c .before .before .before .before .before .before .before .before .before .before .before .before .before .before .print-bytes .ensures) (others (c .before .before .before .before .before .before .before .before .before .before .two-places .ensures) (c .before .before .before .before .before .before .two-numbers .ensures)) (c .before .before .put .ensures)
+unfolding instruction-fields
+returns c = kind-put (c .before .before .before .before .before .before .before .before .before .before .print-bytes .ensures) (others (c .before .before .before .before .before .before .two-places .ensures) (c .before .before .two-numbers .ensures))
 
 pub print-address-spec : {M : Type 1} → statement M
 print-address-spec =
@@ -35,6 +32,5 @@ print-address-spec =
     print-bytes-requires
     two-places-requires
     two-numbers-requires
-    put-requires
     same-length
     returns)

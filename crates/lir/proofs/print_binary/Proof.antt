@@ -1,7 +1,7 @@
 -- The line by its parts.
 use borrow.Author.Needs.{needs}
-use Rattle.lir.specs.PutFields.{whole-instruction}
-use Rattle.spec.specs.Print.{instruction-line, instruction-fields}
+use Rattle.lir.specs.PutFields.{kind-put}
+use Rattle.spec.specs.Print.{instruction-fields}
 use Rattle.lir.proofs.print_binary.Statement.{statement}
 use Rattle.lir.proofs.print_binary.Tie as tie
 
@@ -17,15 +17,12 @@ print-bytes-requires c κs = search needs
 binary-fields-requires : tie.Need-binary-fields-requires
 binary-fields-requires c κs = search needs
 
-put-requires : tie.Need-put-requires
-put-requires c κs = search needs
-
 same-length : tie.Need-same-length
 same-length c = search needs
 
 returns : tie.Need-returns
-unfolding instruction-line instruction-fields
-returns c = whole-instruction (c .before .before .before .before .before .before .before .before .before .before .print-bytes .ensures) (rw (c .before .before .before .before .before .before .before .before .before .before .before .before .before .binary-number .ensures) at (c .before .before .before .before .before .before .binary-fields .ensures)) (c .before .before .put .ensures)
+unfolding instruction-fields
+returns c = kind-put (c .before .before .before .before .before .before .print-bytes .ensures) (rw (c .before .before .before .before .before .before .before .before .before .binary-number .ensures) at (c .before .before .binary-fields .ensures))
 
 pub print-binary-spec : {M : Type 1} → statement M
 print-binary-spec =
@@ -35,6 +32,5 @@ print-binary-spec =
     slice-aggregate-print-bytes
     print-bytes-requires
     binary-fields-requires
-    put-requires
     same-length
     returns)

@@ -1,7 +1,7 @@
 -- The line by its parts.
 use borrow.Author.Needs.{needs}
-use Rattle.lir.specs.PutFields.{whole-instruction, others}
-use Rattle.spec.specs.Print.{instruction-line, instruction-fields}
+use Rattle.lir.specs.PutFields.{kind-put, others}
+use Rattle.spec.specs.Print.{instruction-fields}
 use Rattle.lir.proofs.print_bit_to_byte.Statement.{statement}
 use Rattle.lir.proofs.print_bit_to_byte.Tie as tie
 
@@ -17,15 +17,12 @@ field-place-requires c κs = search needs
 field-bit-requires : tie.Need-field-bit-requires
 field-bit-requires c κs = search needs
 
-put-requires : tie.Need-put-requires
-put-requires c κs = search needs
-
 same-length : tie.Need-same-length
 same-length c = search needs
 
 returns : tie.Need-returns
-unfolding instruction-line instruction-fields
-returns c = whole-instruction (c .before .before .before .before .before .before .before .before .before .before .before .before .before .before .print-bytes .ensures) (others (c .before .before .before .before .before .before .before .before .before .before .field-place .ensures) (c .before .before .before .before .before .before .field-bit .ensures)) (c .before .before .put .ensures)
+unfolding instruction-fields
+returns c = kind-put (c .before .before .before .before .before .before .before .before .before .before .print-bytes .ensures) (others (c .before .before .before .before .before .before .field-place .ensures) (c .before .before .field-bit .ensures))
 
 pub print-bit-to-byte-spec : {M : Type 1} → statement M
 print-bit-to-byte-spec =
@@ -35,6 +32,5 @@ print-bit-to-byte-spec =
     print-bytes-requires
     field-place-requires
     field-bit-requires
-    put-requires
     same-length
     returns)

@@ -1,7 +1,7 @@
 -- The line by its parts.
 use borrow.Author.Needs.{needs}
-use Rattle.lir.specs.PutFields.{whole-instruction, others}
-use Rattle.spec.specs.Print.{instruction-line, instruction-fields}
+use Rattle.lir.specs.PutFields.{kind-put, others}
+use Rattle.spec.specs.Print.{instruction-fields}
 use Rattle.lir.proofs.print_byte_binary.Statement.{statement}
 use Rattle.lir.proofs.print_byte_binary.Tie as tie
 
@@ -14,15 +14,12 @@ field-place-requires c κs = search needs
 two-bytes-requires : tie.Need-two-bytes-requires
 two-bytes-requires c κs = search needs
 
-put-requires : tie.Need-put-requires
-put-requires c κs = search needs
-
 same-length : tie.Need-same-length
 same-length c = search needs
 
 returns : tie.Need-returns
-unfolding instruction-line instruction-fields
-returns c = whole-instruction (c .before .before .before .before .before .before .before .before .before .before .before .before .before .before .print-byte-binary-word .ensures) (others (c .before .before .before .before .before .before .before .before .before .before .field-place .ensures) (c .before .before .before .before .before .before .two-bytes .ensures)) (c .before .before .put .ensures)
+unfolding instruction-fields
+returns c = kind-put (c .before .before .before .before .before .before .before .before .before .before .print-byte-binary-word .ensures) (others (c .before .before .before .before .before .before .field-place .ensures) (c .before .before .two-bytes .ensures))
 
 pub print-byte-binary-spec : {M : Type 1} → statement M
 print-byte-binary-spec =
@@ -31,6 +28,5 @@ print-byte-binary-spec =
     print-byte-binary-word-requires
     field-place-requires
     two-bytes-requires
-    put-requires
     same-length
     returns)

@@ -1,7 +1,7 @@
 -- The line by its parts.
 use borrow.Author.Needs.{needs}
-use Rattle.lir.specs.PutFields.{whole-instruction, others}
-use Rattle.spec.specs.Print.{instruction-line, instruction-fields}
+use Rattle.lir.specs.PutFields.{kind-put, others}
+use Rattle.spec.specs.Print.{instruction-fields}
 use Rattle.lir.proofs.print_byte_to_bit.Statement.{statement}
 use Rattle.lir.proofs.print_byte_to_bit.Tie as tie
 
@@ -17,15 +17,12 @@ field-number-requires c κs = search needs
 field-byte-requires : tie.Need-field-byte-requires
 field-byte-requires c κs = search needs
 
-put-requires : tie.Need-put-requires
-put-requires c κs = search needs
-
 same-length : tie.Need-same-length
 same-length c = search needs
 
 returns : tie.Need-returns
-unfolding instruction-line instruction-fields
-returns c = whole-instruction (c .before .before .before .before .before .before .before .before .before .before .before .before .before .before .print-bytes .ensures) (others (c .before .before .before .before .before .before .before .before .before .before .field-number .ensures) (c .before .before .before .before .before .before .field-byte .ensures)) (c .before .before .put .ensures)
+unfolding instruction-fields
+returns c = kind-put (c .before .before .before .before .before .before .before .before .before .before .print-bytes .ensures) (others (c .before .before .before .before .before .before .field-number .ensures) (c .before .before .field-byte .ensures))
 
 pub print-byte-to-bit-spec : {M : Type 1} → statement M
 print-byte-to-bit-spec =
@@ -35,6 +32,5 @@ print-byte-to-bit-spec =
     print-bytes-requires
     field-number-requires
     field-byte-requires
-    put-requires
     same-length
     returns)

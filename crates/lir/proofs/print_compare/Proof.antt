@@ -1,7 +1,7 @@
 -- The line by its parts.
 use borrow.Author.Needs.{needs}
-use Rattle.lir.specs.PutFields.{whole-instruction, others}
-use Rattle.spec.specs.Print.{instruction-line, instruction-fields}
+use Rattle.lir.specs.PutFields.{kind-put, others}
+use Rattle.spec.specs.Print.{instruction-fields}
 use Rattle.lir.proofs.print_compare.Statement.{statement}
 use Rattle.lir.proofs.print_compare.Tie as tie
 
@@ -20,15 +20,12 @@ three-numbers-requires c κs = search needs
 two-values-requires : tie.Need-two-values-requires
 two-values-requires c κs = search needs
 
-put-requires : tie.Need-put-requires
-put-requires c κs = search needs
-
 same-length : tie.Need-same-length
 same-length c = search needs
 
 returns : tie.Need-returns
-unfolding instruction-line instruction-fields
-returns c = whole-instruction (c .before .before .before .before .before .before .before .before .before .before .before .before .before .before .print-bytes .ensures) (others (rw (c .before .before .before .before .before .before .before .before .before .before .before .before .before .before .before .before .before .compare-number .ensures) at (c .before .before .before .before .before .before .before .before .before .before .three-numbers .ensures)) (c .before .before .before .before .before .before .two-values .ensures)) (c .before .before .put .ensures)
+unfolding instruction-fields
+returns c = kind-put (c .before .before .before .before .before .before .before .before .before .before .print-bytes .ensures) (others (rw (c .before .before .before .before .before .before .before .before .before .before .before .before .before .compare-number .ensures) at (c .before .before .before .before .before .before .three-numbers .ensures)) (c .before .before .two-values .ensures))
 
 pub print-compare-spec : {M : Type 1} → statement M
 print-compare-spec =
@@ -39,6 +36,5 @@ print-compare-spec =
     print-bytes-requires
     three-numbers-requires
     two-values-requires
-    put-requires
     same-length
     returns)

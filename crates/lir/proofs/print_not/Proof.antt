@@ -1,7 +1,7 @@
 -- The line by its parts.
 use borrow.Author.Needs.{needs}
-use Rattle.lir.specs.PutFields.{whole-instruction}
-use Rattle.spec.specs.Print.{instruction-line, instruction-fields}
+use Rattle.lir.specs.PutFields.{kind-put}
+use Rattle.spec.specs.Print.{instruction-fields}
 use Rattle.lir.proofs.print_not.Statement.{statement}
 use Rattle.lir.proofs.print_not.Tie as tie
 
@@ -14,15 +14,12 @@ print-bytes-requires c κs = search needs
 place-byte-requires : tie.Need-place-byte-requires
 place-byte-requires c κs = search needs
 
-put-requires : tie.Need-put-requires
-put-requires c κs = search needs
-
 same-length : tie.Need-same-length
 same-length c = search needs
 
 returns : tie.Need-returns
-unfolding instruction-line instruction-fields
-returns c = whole-instruction (c .before .before .before .before .before .before .before .before .before .before .print-bytes .ensures) (c .before .before .before .before .before .before .place-byte .ensures) (c .before .before .put .ensures)
+unfolding instruction-fields
+returns c = kind-put (c .before .before .before .before .before .before .print-bytes .ensures) (c .before .before .place-byte .ensures)
 
 pub print-not-spec : {M : Type 1} → statement M
 print-not-spec =
@@ -31,6 +28,5 @@ print-not-spec =
     slice-aggregate-print-bytes
     print-bytes-requires
     place-byte-requires
-    put-requires
     same-length
     returns)

@@ -1,7 +1,7 @@
 -- The line by its parts.
 use borrow.Author.Needs.{needs}
-use Rattle.lir.specs.PutFields.{whole-instruction, others}
-use Rattle.spec.specs.Print.{instruction-line, instruction-fields}
+use Rattle.lir.specs.PutFields.{kind-put, others}
+use Rattle.spec.specs.Print.{instruction-fields}
 use Rattle.lir.proofs.print_select_bit.Statement.{statement}
 use Rattle.lir.proofs.print_select_bit.Tie as tie
 
@@ -17,15 +17,12 @@ field-number-requires c κs = search needs
 three-bits-requires : tie.Need-three-bits-requires
 three-bits-requires c κs = search needs
 
-put-requires : tie.Need-put-requires
-put-requires c κs = search needs
-
 same-length : tie.Need-same-length
 same-length c = search needs
 
 returns : tie.Need-returns
-unfolding instruction-line instruction-fields
-returns c = whole-instruction (c .before .before .before .before .before .before .before .before .before .before .before .before .before .before .print-bytes .ensures) (others (c .before .before .before .before .before .before .before .before .before .before .field-number .ensures) (c .before .before .before .before .before .before .three-bits .ensures)) (c .before .before .put .ensures)
+unfolding instruction-fields
+returns c = kind-put (c .before .before .before .before .before .before .before .before .before .before .print-bytes .ensures) (others (c .before .before .before .before .before .before .field-number .ensures) (c .before .before .three-bits .ensures))
 
 pub print-select-bit-spec : {M : Type 1} → statement M
 print-select-bit-spec =
@@ -35,6 +32,5 @@ print-select-bit-spec =
     print-bytes-requires
     field-number-requires
     three-bits-requires
-    put-requires
     same-length
     returns)

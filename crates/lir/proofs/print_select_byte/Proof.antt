@@ -1,7 +1,7 @@
 -- The line by its parts.
 use borrow.Author.Needs.{needs}
-use Rattle.lir.specs.PutFields.{whole-instruction, others}
-use Rattle.spec.specs.Print.{instruction-line, instruction-fields}
+use Rattle.lir.specs.PutFields.{kind-put, others}
+use Rattle.spec.specs.Print.{instruction-fields}
 use Rattle.lir.proofs.print_select_byte.Statement.{statement}
 use Rattle.lir.proofs.print_select_byte.Tie as tie
 
@@ -20,15 +20,12 @@ field-bit-requires c κs = search needs
 two-bytes-requires : tie.Need-two-bytes-requires
 two-bytes-requires c κs = search needs
 
-put-requires : tie.Need-put-requires
-put-requires c κs = search needs
-
 same-length : tie.Need-same-length
 same-length c = search needs
 
 returns : tie.Need-returns
-unfolding instruction-line instruction-fields
-returns c = whole-instruction (c .before .before .before .before .before .before .before .before .before .before .before .before .before .before .before .before .before .before .print-bytes .ensures) (others (c .before .before .before .before .before .before .before .before .before .before .before .before .before .before .field-place .ensures) (others (c .before .before .before .before .before .before .before .before .before .before .field-bit .ensures) (c .before .before .before .before .before .before .two-bytes .ensures))) (c .before .before .put .ensures)
+unfolding instruction-fields
+returns c = kind-put (c .before .before .before .before .before .before .before .before .before .before .before .before .before .before .print-bytes .ensures) (others (c .before .before .before .before .before .before .before .before .before .before .field-place .ensures) (others (c .before .before .before .before .before .before .field-bit .ensures) (c .before .before .two-bytes .ensures)))
 
 pub print-select-byte-spec : {M : Type 1} → statement M
 print-select-byte-spec =
@@ -39,6 +36,5 @@ print-select-byte-spec =
     field-place-requires
     field-bit-requires
     two-bytes-requires
-    put-requires
     same-length
     returns)

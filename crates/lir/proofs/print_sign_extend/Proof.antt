@@ -1,7 +1,7 @@
 -- The line by its parts.
 use borrow.Author.Needs.{needs}
-use Rattle.lir.specs.PutFields.{whole-instruction, others}
-use Rattle.spec.specs.Print.{instruction-line, instruction-fields}
+use Rattle.lir.specs.PutFields.{kind-put, others}
+use Rattle.spec.specs.Print.{instruction-fields}
 use Rattle.lir.proofs.print_sign_extend.Statement.{statement}
 use Rattle.lir.proofs.print_sign_extend.Tie as tie
 
@@ -20,15 +20,12 @@ field-destinations-requires c κs = search needs
 field-bytes-requires : tie.Need-field-bytes-requires
 field-bytes-requires c κs = search needs
 
-put-requires : tie.Need-put-requires
-put-requires c κs = search needs
-
 same-length : tie.Need-same-length
 same-length c = search needs
 
 returns : tie.Need-returns
-unfolding instruction-line instruction-fields
-returns c = whole-instruction (c .before .before .before .before .before .before .before .before .before .before .before .before .before .before .before .before .before .before .print-bytes .ensures) (others (c .before .before .before .before .before .before .before .before .before .before .before .before .before .before .field-number .ensures) (others (c .before .before .before .before .before .before .before .before .before .before .field-destinations .ensures) (c .before .before .before .before .before .before .field-bytes .ensures))) (c .before .before .put .ensures)
+unfolding instruction-fields
+returns c = kind-put (c .before .before .before .before .before .before .before .before .before .before .before .before .before .before .print-bytes .ensures) (others (c .before .before .before .before .before .before .before .before .before .before .field-number .ensures) (others (c .before .before .before .before .before .before .field-destinations .ensures) (c .before .before .field-bytes .ensures)))
 
 pub print-sign-extend-spec : {M : Type 1} → statement M
 print-sign-extend-spec =
@@ -39,6 +36,5 @@ print-sign-extend-spec =
     field-number-requires
     field-destinations-requires
     field-bytes-requires
-    put-requires
     same-length
     returns)

@@ -11,7 +11,8 @@ use Rattle.tables.proofs.Laws.{readable-sized, tree-none}
 use Rattle.values.specs.Left.{bufs, value-done, bit-done}
 use Rattle.reads.specs.Reading.{at-of}
 use Rattle.lowering.proofs.FormLaws.{found-room, found-meets}
-use Rattle.lowering.proofs.RoomLaws.{leaf-room, one-room, one-top, one-ready, two-room, two-top, second-room, two-ready, select-room, select-top, other-room, condition-room, select-ready, bit-room, tree-top, list-room}
+use Rattle.lowering.proofs.NodeLaws.{meets-restored}
+use Rattle.lowering.proofs.RoomLaws.{node-after, leaf-room, one-room, one-top, one-ready, two-room, two-top, second-room, two-ready, select-room, select-top, other-room, condition-room, select-ready, bit-room, tree-top, list-room}
 use Rattle.lowering.proofs.CycleLaws.{rank, rank-down, rank-same, one-refused, one-meets, two-refused, second-refused, both-meet, first-refused, other-refused, condition-refused, choice-meets, operand-refused, bit-meets, gathered-meets}
 use Rattle.lowering.proofs.ListLaws.{Rest, rest-all, rest-none, rest-fits, rest-first, rest-refused, rest-more}
 use Rattle.lowering.proofs.expression_as_bit.Reads as expression-as-bit
@@ -37,6 +38,8 @@ use Rattle.lowering.proofs.lower_two.Kinds as lower-two-kinds
 use Rattle.lowering.proofs.+expression_as_bit+lower_aggregate+lower_expression+lower_list+lower_one+lower_select+lower_two.Lts-lower_two as lower-two-lts
 use Rattle.lowering.proofs.find_node.Reads as find-node-reads
 use Rattle.lowering.proofs.lower_leaf.Reads as lower-leaf-reads
+use Rattle.lowering.proofs.with_node.Reads as with-node-reads
+use Rattle.lowering.proofs.restored.Reads as restored-reads
 use Rattle.lowering.proofs.one_step.Reads as one-step-reads
 use Rattle.selects.proofs.lower_select.Reads as lower-select-reads
 use Rattle.lowering.proofs.two_step.Reads as two-step-reads
@@ -159,7 +162,7 @@ abbrev lower-aggregate-calls : ℕ → lower-aggregate-lts.Claims
 lower-aggregate-calls t = (lower-list-below t, lower-list.Post, gathered-reads.Asked, gathered-reads.Learnt)
 
 abbrev lower-expression-calls : ℕ → lower-expression-lts.Claims
-lower-expression-calls t = (lower-null-reads.Asked, lower-null-reads.Learnt, find-node-reads.Asked, find-node-reads.Learnt, lower-leaf-reads.Asked, lower-leaf-reads.Learnt, lower-one-below t, lower-one.Post, lower-two-below t, lower-two.Post, lower-select-below t, lower-select.Post, lower-aggregate-below t, lower-aggregate.Post)
+lower-expression-calls t = (lower-null-reads.Asked, lower-null-reads.Learnt, find-node-reads.Asked, find-node-reads.Learnt, with-node-reads.Asked, with-node-reads.Learnt, lower-leaf-reads.Asked, lower-leaf-reads.Learnt, restored-reads.Asked, restored-reads.Learnt, lower-one-below t, lower-one.Post, lower-two-below t, lower-two.Post, lower-select-below t, lower-select.Post, lower-aggregate-below t, lower-aggregate.Post)
 
 abbrev lower-list-calls : ℕ → lower-list-lts.Claims
 lower-list-calls t = (list-at-reads.Asked, list-at-reads.Learnt, at-top-reads.Asked, at-top-reads.Learnt, lower-expression-below t, lower-expression.Post, store-head-reads.Asked, store-head-reads.Learnt)
@@ -216,7 +219,7 @@ expression-as-bit-same-length-8 : (t : ℕ) → expression-as-bit-lts.Need-same-
 expression-as-bit-same-length-8 t c = c .before .before .before .before .before .before .before .before .before .before .before .before .before .before .before .before .before .before .before .lower-expression .kept .1 .1 .1 .1 .1 .1 .1 .0
 
 expression-as-bit-returns-2 : (t : ℕ) → expression-as-bit-lts.Need-returns-2 (expression-as-bit-calls t) (expression-as-bit-at t) expression-as-bit.Post
-expression-as-bit-returns-2 t c = let a = c .before .before .before .before .before .before .before .before .before .before .before .before .before .before .before .before .before .before .before .before .before .before .before .before .before .before .before .before .before .before .before .args in let T = tables-of (a .rows .now) (a .nodes .now) (a .lists .now) (a .counts) in let S = c .before .before .before .before .before .before .before .before .before .before .before .before .before .before .before .before .before .before .before .before .before .before .before .before .before .before .before .before .before .before .before .pre .1 .0 in let R = S .types in let Q = c .before .before .before .before .before .before .before .before .before .before .before .before .before .before .before .before .before .before .before .before .before .before .before .before .before .before .before .before .before .before .before .pre .1 .1 in let x = value-done (c .before .before .before .before .before .before .before .before .before .before .before .before .before .before .before .before .before .before .before .lower-expression .ensures) (c .before .before .before .before .before .before .before .before .before .v .given .1) in bit-meets T (a .depth) (at-of (a .h)) (a .k) x (tree-top T R (a .depth) (a .k) Q) (c .before .before .before .before .before .at-top .ensures) (c .before .before .before .before .value-as-bit .ensures (a .nodes .now) _ _)
+expression-as-bit-returns-2 t c = let a = c .before .before .before .before .before .before .before .before .before .before .before .before .before .before .before .before .before .before .before .before .before .before .before .before .before .before .before .before .before .before .before .args in let T = tables-of (a .rows .now) (a .nodes .now) (a .lists .now) (a .counts) in let S = c .before .before .before .before .before .before .before .before .before .before .before .before .before .before .before .before .before .before .before .before .before .before .before .before .before .before .before .before .before .before .before .pre .1 .0 in let R = S .types in let Q = c .before .before .before .before .before .before .before .before .before .before .before .before .before .before .before .before .before .before .before .before .before .before .before .before .before .before .before .before .before .before .before .pre .1 .1 in let x = value-done (c .before .before .before .before .before .before .before .before .before .before .before .before .before .before .before .before .before .before .before .lower-expression .ensures) (c .before .before .before .before .before .before .before .before .before .v .given .1) in bit-meets T (a .depth) (at-of (a .h)) (a .k) x (tree-top T R (a .depth) (a .k) Q) (c .before .before .before .before .before .at-top .ensures) (c .before .before .before .before .value-as-bit .ensures (a .nodes .now) _ _ (rw (c .before .before .before .before .before .at-top .ensures) (node-after (c .before .before .before .before .before .before .before .before .before .before .before .before .before .before .before .before .before .before .before .before .before .before .before .before .before .before .before .before .before .before .before .pre .1 .2) x)))
 
 lower-aggregate-lower-list-requires : (t : ℕ) → lower-aggregate-lts.Need-lower-list-requires (lower-aggregate-calls t) (lower-aggregate-at t) lower-aggregate.Post
 lower-aggregate-lower-list-requires t c κs = let a = c .before .before .before .before .before .before .before .before .before .before .before .args in let T = tables-of (a .rows .now) (a .nodes .now) (a .lists .now) (a .counts) in let S = c .before .before .before .before .before .before .before .before .before .before .before .pre .1 .0 in let R = S .types in let Q = c .before .before .before .before .before .before .before .before .before .before .before .pre .1 .1 in let q = list-room T R (a .lists .now) (a .depth) (a .a) (a .n) Q in (rank-same (a .depth) (2) (1) (c .before .before .before .before .before .before .before .before .before .before .before .pre .0) (omega arith), (S, q .0, q .1))
@@ -248,125 +251,143 @@ lower-expression-returns t c = let a = c .before .before .before .before .before
 lower-expression-find-node-requires : (t : ℕ) → lower-expression-lts.Need-find-node-requires (lower-expression-calls t) (lower-expression-at t) lower-expression.Post
 lower-expression-find-node-requires t c κs = let a = c .before .before .before .before .before .before .before .before .args in let T = tables-of (a .rows .now) (a .nodes .now) (a .lists .now) (a .counts) in let S = c .before .before .before .before .before .before .before .before .pre .1 .0 in let R = S .types in let Q = c .before .before .before .before .before .before .before .before .pre .1 .1 in readable-sized (a .rows .now) (a .nodes .now) (a .lists .now) (a .counts) S
 
+lower-expression-with-node-requires : (t : ℕ) → lower-expression-lts.Need-with-node-requires (lower-expression-calls t) (lower-expression-at t) lower-expression.Post
+lower-expression-with-node-requires t c κs = search needs
+
 lower-expression-enum-known-form : (t : ℕ) → lower-expression-lts.Need-enum-known-form (lower-expression-calls t) (lower-expression-at t) lower-expression.Post
 lower-expression-enum-known-form t c = search needs
 
 lower-expression-sub-lower-leaf : (t : ℕ) → lower-expression-lts.Need-sub-lower-leaf (lower-expression-calls t) (lower-expression-at t) lower-expression.Post
-lower-expression-sub-lower-leaf t c = omega (arith, c .before .before .before .before .before .before .before .before .before .if1 .left)
+lower-expression-sub-lower-leaf t c = omega (arith, c .before .before .before .before .before .before .before .before .before .before .before .before .before .if1 .left)
 
 lower-expression-lower-leaf-requires : (t : ℕ) → lower-expression-lts.Need-lower-leaf-requires (lower-expression-calls t) (lower-expression-at t) lower-expression.Post
-lower-expression-lower-leaf-requires t c κs = let a = c .before .before .before .before .before .before .before .before .before .before .before .before .before .before .before .before .before .args in let T = tables-of (a .rows .now) (a .nodes .now) (a .lists .now) (a .counts) in let S = c .before .before .before .before .before .before .before .before .before .before .before .before .before .before .before .before .before .pre .1 .0 in let R = S .types in let Q = c .before .before .before .before .before .before .before .before .before .before .before .before .before .before .before .before .before .pre .1 .1 in let f = c .before .before .before .before .before .before .before .before .find-node .ensures (a .rows .now) in (S, leaf-room T R (found-room f (a .depth) (c .before .before .before .before .before .before .before .before .before .if1 .left) _ (c .before .before .before .before .before .form .given .1) Q))
+lower-expression-lower-leaf-requires t c κs = let a = c .before .before .before .before .before .before .before .before .before .before .before .before .before .before .before .before .before .before .before .before .before .args in let T = tables-of (a .rows .now) (a .nodes .now) (a .lists .now) (a .counts) in let S = c .before .before .before .before .before .before .before .before .before .before .before .before .before .before .before .before .before .before .before .before .before .pre .1 .0 in let R = S .types in let Q = c .before .before .before .before .before .before .before .before .before .before .before .before .before .before .before .before .before .before .before .before .before .pre .1 .1 in let f = c .before .before .before .before .before .before .before .before .before .before .before .before .find-node .ensures (a .rows .now) in rw (c .before .before .before .before .before .before .before .with-node .ensures) (S, leaf-room T R (found-room f (a .depth) (c .before .before .before .before .before .before .before .before .before .before .before .before .before .if1 .left) _ (c .before .before .before .before .before .form .given .1) Q))
+
+lower-expression-restored-requires : (t : ℕ) → lower-expression-lts.Need-restored-requires (lower-expression-calls t) (lower-expression-at t) lower-expression.Post
+lower-expression-restored-requires t c κs = search needs
 
 lower-expression-enum-known-form-2 : (t : ℕ) → lower-expression-lts.Need-enum-known-form-2 (lower-expression-calls t) (lower-expression-at t) lower-expression.Post
 lower-expression-enum-known-form-2 t c = search needs
 
 lower-expression-sub-lower-one : (t : ℕ) → lower-expression-lts.Need-sub-lower-one (lower-expression-calls t) (lower-expression-at t) lower-expression.Post
-lower-expression-sub-lower-one t c = omega (arith, c .before .before .before .before .before .before .before .before .before .if1 .left)
+lower-expression-sub-lower-one t c = omega (arith, c .before .before .before .before .before .before .before .before .before .before .before .before .before .if1 .left)
 
 lower-expression-lower-one-requires : (t : ℕ) → lower-expression-lts.Need-lower-one-requires (lower-expression-calls t) (lower-expression-at t) lower-expression.Post
-lower-expression-lower-one-requires t c κs = let a = c .before .before .before .before .before .before .before .before .before .before .before .before .before .before .before .before .before .args in let T = tables-of (a .rows .now) (a .nodes .now) (a .lists .now) (a .counts) in let S = c .before .before .before .before .before .before .before .before .before .before .before .before .before .before .before .before .before .pre .1 .0 in let R = S .types in let Q = c .before .before .before .before .before .before .before .before .before .before .before .before .before .before .before .before .before .pre .1 .1 in let f = c .before .before .before .before .before .before .before .before .find-node .ensures (a .rows .now) in (rank-down (a .depth) 0 1 (c .before .before .before .before .before .before .before .before .before .before .before .before .before .before .before .before .before .pre .0) (c .before .before .before .before .before .before .before .before .before .if1 .left) (omega arith), (S, found-room f (a .depth) (c .before .before .before .before .before .before .before .before .before .if1 .left) _ (c .before .before .before .before .before .form2 .given .1) Q))
+lower-expression-lower-one-requires t c κs = let a = c .before .before .before .before .before .before .before .before .before .before .before .before .before .before .before .before .before .before .before .before .before .args in let T = tables-of (a .rows .now) (a .nodes .now) (a .lists .now) (a .counts) in let S = c .before .before .before .before .before .before .before .before .before .before .before .before .before .before .before .before .before .before .before .before .before .pre .1 .0 in let R = S .types in let Q = c .before .before .before .before .before .before .before .before .before .before .before .before .before .before .before .before .before .before .before .before .before .pre .1 .1 in let f = c .before .before .before .before .before .before .before .before .before .before .before .before .find-node .ensures (a .rows .now) in (rank-down (a .depth) 0 1 (c .before .before .before .before .before .before .before .before .before .before .before .before .before .before .before .before .before .before .before .before .before .pre .0) (c .before .before .before .before .before .before .before .before .before .before .before .before .before .if1 .left) (omega arith), rw (c .before .before .before .before .before .before .before .with-node .ensures) (S, found-room f (a .depth) (c .before .before .before .before .before .before .before .before .before .before .before .before .before .if1 .left) _ (c .before .before .before .before .before .form2 .given .1) Q))
+
+lower-expression-restored-requires-2 : (t : ℕ) → lower-expression-lts.Need-restored-requires-2 (lower-expression-calls t) (lower-expression-at t) lower-expression.Post
+lower-expression-restored-requires-2 t c κs = search needs
 
 lower-expression-enum-known-form-3 : (t : ℕ) → lower-expression-lts.Need-enum-known-form-3 (lower-expression-calls t) (lower-expression-at t) lower-expression.Post
 lower-expression-enum-known-form-3 t c = search needs
 
 lower-expression-sub-lower-two : (t : ℕ) → lower-expression-lts.Need-sub-lower-two (lower-expression-calls t) (lower-expression-at t) lower-expression.Post
-lower-expression-sub-lower-two t c = omega (arith, c .before .before .before .before .before .before .before .before .before .if1 .left)
+lower-expression-sub-lower-two t c = omega (arith, c .before .before .before .before .before .before .before .before .before .before .before .before .before .if1 .left)
 
 lower-expression-lower-two-requires : (t : ℕ) → lower-expression-lts.Need-lower-two-requires (lower-expression-calls t) (lower-expression-at t) lower-expression.Post
-lower-expression-lower-two-requires t c κs = let a = c .before .before .before .before .before .before .before .before .before .before .before .before .before .before .before .before .before .args in let T = tables-of (a .rows .now) (a .nodes .now) (a .lists .now) (a .counts) in let S = c .before .before .before .before .before .before .before .before .before .before .before .before .before .before .before .before .before .pre .1 .0 in let R = S .types in let Q = c .before .before .before .before .before .before .before .before .before .before .before .before .before .before .before .before .before .pre .1 .1 in let f = c .before .before .before .before .before .before .before .before .find-node .ensures (a .rows .now) in (rank-down (a .depth) 0 1 (c .before .before .before .before .before .before .before .before .before .before .before .before .before .before .before .before .before .pre .0) (c .before .before .before .before .before .before .before .before .before .if1 .left) (omega arith), (S, found-room f (a .depth) (c .before .before .before .before .before .before .before .before .before .if1 .left) _ (c .before .before .before .before .before .form3 .given .1) Q))
+lower-expression-lower-two-requires t c κs = let a = c .before .before .before .before .before .before .before .before .before .before .before .before .before .before .before .before .before .before .before .before .before .args in let T = tables-of (a .rows .now) (a .nodes .now) (a .lists .now) (a .counts) in let S = c .before .before .before .before .before .before .before .before .before .before .before .before .before .before .before .before .before .before .before .before .before .pre .1 .0 in let R = S .types in let Q = c .before .before .before .before .before .before .before .before .before .before .before .before .before .before .before .before .before .before .before .before .before .pre .1 .1 in let f = c .before .before .before .before .before .before .before .before .before .before .before .before .find-node .ensures (a .rows .now) in (rank-down (a .depth) 0 1 (c .before .before .before .before .before .before .before .before .before .before .before .before .before .before .before .before .before .before .before .before .before .pre .0) (c .before .before .before .before .before .before .before .before .before .before .before .before .before .if1 .left) (omega arith), rw (c .before .before .before .before .before .before .before .with-node .ensures) (S, found-room f (a .depth) (c .before .before .before .before .before .before .before .before .before .before .before .before .before .if1 .left) _ (c .before .before .before .before .before .form3 .given .1) Q))
+
+lower-expression-restored-requires-3 : (t : ℕ) → lower-expression-lts.Need-restored-requires-3 (lower-expression-calls t) (lower-expression-at t) lower-expression.Post
+lower-expression-restored-requires-3 t c κs = search needs
 
 lower-expression-enum-known-form-4 : (t : ℕ) → lower-expression-lts.Need-enum-known-form-4 (lower-expression-calls t) (lower-expression-at t) lower-expression.Post
 lower-expression-enum-known-form-4 t c = search needs
 
 lower-expression-sub-lower-select : (t : ℕ) → lower-expression-lts.Need-sub-lower-select (lower-expression-calls t) (lower-expression-at t) lower-expression.Post
-lower-expression-sub-lower-select t c = omega (arith, c .before .before .before .before .before .before .before .before .before .if1 .left)
+lower-expression-sub-lower-select t c = omega (arith, c .before .before .before .before .before .before .before .before .before .before .before .before .before .if1 .left)
 
 lower-expression-lower-select-requires : (t : ℕ) → lower-expression-lts.Need-lower-select-requires (lower-expression-calls t) (lower-expression-at t) lower-expression.Post
-lower-expression-lower-select-requires t c κs = let a = c .before .before .before .before .before .before .before .before .before .before .before .before .before .before .before .before .before .args in let T = tables-of (a .rows .now) (a .nodes .now) (a .lists .now) (a .counts) in let S = c .before .before .before .before .before .before .before .before .before .before .before .before .before .before .before .before .before .pre .1 .0 in let R = S .types in let Q = c .before .before .before .before .before .before .before .before .before .before .before .before .before .before .before .before .before .pre .1 .1 in let f = c .before .before .before .before .before .before .before .before .find-node .ensures (a .rows .now) in (rank-down (a .depth) 0 2 (c .before .before .before .before .before .before .before .before .before .before .before .before .before .before .before .before .before .pre .0) (c .before .before .before .before .before .before .before .before .before .if1 .left) (omega arith), (S, found-room f (a .depth) (c .before .before .before .before .before .before .before .before .before .if1 .left) _ (c .before .before .before .before .before .form4 .given .1) Q))
+lower-expression-lower-select-requires t c κs = let a = c .before .before .before .before .before .before .before .before .before .before .before .before .before .before .before .before .before .before .before .before .before .args in let T = tables-of (a .rows .now) (a .nodes .now) (a .lists .now) (a .counts) in let S = c .before .before .before .before .before .before .before .before .before .before .before .before .before .before .before .before .before .before .before .before .before .pre .1 .0 in let R = S .types in let Q = c .before .before .before .before .before .before .before .before .before .before .before .before .before .before .before .before .before .before .before .before .before .pre .1 .1 in let f = c .before .before .before .before .before .before .before .before .before .before .before .before .find-node .ensures (a .rows .now) in (rank-down (a .depth) 0 2 (c .before .before .before .before .before .before .before .before .before .before .before .before .before .before .before .before .before .before .before .before .before .pre .0) (c .before .before .before .before .before .before .before .before .before .before .before .before .before .if1 .left) (omega arith), rw (c .before .before .before .before .before .before .before .with-node .ensures) (S, found-room f (a .depth) (c .before .before .before .before .before .before .before .before .before .before .before .before .before .if1 .left) _ (c .before .before .before .before .before .form4 .given .1) Q))
+
+lower-expression-restored-requires-4 : (t : ℕ) → lower-expression-lts.Need-restored-requires-4 (lower-expression-calls t) (lower-expression-at t) lower-expression.Post
+lower-expression-restored-requires-4 t c κs = search needs
 
 lower-expression-enum-known-form-5 : (t : ℕ) → lower-expression-lts.Need-enum-known-form-5 (lower-expression-calls t) (lower-expression-at t) lower-expression.Post
 lower-expression-enum-known-form-5 t c = search needs
 
 lower-expression-sub-lower-aggregate : (t : ℕ) → lower-expression-lts.Need-sub-lower-aggregate (lower-expression-calls t) (lower-expression-at t) lower-expression.Post
-lower-expression-sub-lower-aggregate t c = omega (arith, c .before .before .before .before .before .before .before .before .before .if1 .left)
+lower-expression-sub-lower-aggregate t c = omega (arith, c .before .before .before .before .before .before .before .before .before .before .before .before .before .if1 .left)
 
 lower-expression-lower-aggregate-requires : (t : ℕ) → lower-expression-lts.Need-lower-aggregate-requires (lower-expression-calls t) (lower-expression-at t) lower-expression.Post
-lower-expression-lower-aggregate-requires t c κs = let a = c .before .before .before .before .before .before .before .before .before .before .before .before .before .before .before .before .before .args in let T = tables-of (a .rows .now) (a .nodes .now) (a .lists .now) (a .counts) in let S = c .before .before .before .before .before .before .before .before .before .before .before .before .before .before .before .before .before .pre .1 .0 in let R = S .types in let Q = c .before .before .before .before .before .before .before .before .before .before .before .before .before .before .before .before .before .pre .1 .1 in let f = c .before .before .before .before .before .before .before .before .find-node .ensures (a .rows .now) in (rank-down (a .depth) 0 2 (c .before .before .before .before .before .before .before .before .before .before .before .before .before .before .before .before .before .pre .0) (c .before .before .before .before .before .before .before .before .before .if1 .left) (omega arith), (S, found-room f (a .depth) (c .before .before .before .before .before .before .before .before .before .if1 .left) _ (c .before .before .before .before .before .form5 .given .1) Q))
+lower-expression-lower-aggregate-requires t c κs = let a = c .before .before .before .before .before .before .before .before .before .before .before .before .before .before .before .before .before .before .before .before .before .args in let T = tables-of (a .rows .now) (a .nodes .now) (a .lists .now) (a .counts) in let S = c .before .before .before .before .before .before .before .before .before .before .before .before .before .before .before .before .before .before .before .before .before .pre .1 .0 in let R = S .types in let Q = c .before .before .before .before .before .before .before .before .before .before .before .before .before .before .before .before .before .before .before .before .before .pre .1 .1 in let f = c .before .before .before .before .before .before .before .before .before .before .before .before .find-node .ensures (a .rows .now) in (rank-down (a .depth) 0 2 (c .before .before .before .before .before .before .before .before .before .before .before .before .before .before .before .before .before .before .before .before .before .pre .0) (c .before .before .before .before .before .before .before .before .before .before .before .before .before .if1 .left) (omega arith), rw (c .before .before .before .before .before .before .before .with-node .ensures) (S, found-room f (a .depth) (c .before .before .before .before .before .before .before .before .before .before .before .before .before .if1 .left) _ (c .before .before .before .before .before .form5 .given .1) Q))
+
+lower-expression-restored-requires-5 : (t : ℕ) → lower-expression-lts.Need-restored-requires-5 (lower-expression-calls t) (lower-expression-at t) lower-expression.Post
+lower-expression-restored-requires-5 t c κs = search needs
 
 lower-expression-same-length : (t : ℕ) → lower-expression-lts.Need-same-length (lower-expression-calls t) (lower-expression-at t) lower-expression.Post
-lower-expression-same-length t c = c .before .before .before .before .before .before .before .before .lower-leaf .kept .1 .1 .1 .1 .0
+lower-expression-same-length t c = c .before .before .before .before .before .before .before .before .before .lower-leaf .kept .1 .1 .1 .1 .0
 
 lower-expression-same-length-2 : (t : ℕ) → lower-expression-lts.Need-same-length-2 (lower-expression-calls t) (lower-expression-at t) lower-expression.Post
-lower-expression-same-length-2 t c = c .before .before .before .before .before .before .before .before .lower-leaf .kept .1 .1 .1 .1 .1 .0
+lower-expression-same-length-2 t c = c .before .before .before .before .before .before .before .before .before .lower-leaf .kept .1 .1 .1 .1 .1 .0
 
 lower-expression-same-length-3 : (t : ℕ) → lower-expression-lts.Need-same-length-3 (lower-expression-calls t) (lower-expression-at t) lower-expression.Post
-lower-expression-same-length-3 t c = c .before .before .before .before .before .before .before .before .lower-leaf .kept .1 .1 .1 .1 .1 .1 .0
+lower-expression-same-length-3 t c = c .before .before .before .before .before .before .before .before .before .lower-leaf .kept .1 .1 .1 .1 .1 .1 .0
 
 lower-expression-same-length-4 : (t : ℕ) → lower-expression-lts.Need-same-length-4 (lower-expression-calls t) (lower-expression-at t) lower-expression.Post
-lower-expression-same-length-4 t c = c .before .before .before .before .before .before .before .before .lower-leaf .kept .1 .1 .1 .1 .1 .1 .1 .0
+lower-expression-same-length-4 t c = c .before .before .before .before .before .before .before .before .before .lower-leaf .kept .1 .1 .1 .1 .1 .1 .1 .0
 
 lower-expression-returns-2 : (t : ℕ) → lower-expression-lts.Need-returns-2 (lower-expression-calls t) (lower-expression-at t) lower-expression.Post
-lower-expression-returns-2 t c = let a = c .before .before .before .before .before .before .before .before .before .before .before .before .before .before .before .before .before .before .before .before .before .before .before .before .before .before .args in let T = tables-of (a .rows .now) (a .nodes .now) (a .lists .now) (a .counts) in let S = c .before .before .before .before .before .before .before .before .before .before .before .before .before .before .before .before .before .before .before .before .before .before .before .before .before .before .pre .1 .0 in let R = S .types in let Q = c .before .before .before .before .before .before .before .before .before .before .before .before .before .before .before .before .before .before .before .before .before .before .before .before .before .before .pre .1 .1 in let f = c .before .before .before .before .before .before .before .before .before .before .before .before .before .before .before .before .before .find-node .ensures (a .rows .now) in found-meets f (a .depth) (c .before .before .before .before .before .before .before .before .before .before .before .before .before .before .before .before .before .before .if1 .left) _ (c .before .before .before .before .before .before .before .before .before .before .before .before .before .before .form .given .1) (c .before .before .before .before .before .before .before .before .lower-leaf .ensures)
+lower-expression-returns-2 t c = let a = c .before .before .before .before .before .before .before .before .before .before .before .before .before .before .before .before .before .before .before .before .before .before .before .before .before .before .before .before .before .before .before .args in let T = tables-of (a .rows .now) (a .nodes .now) (a .lists .now) (a .counts) in let S = c .before .before .before .before .before .before .before .before .before .before .before .before .before .before .before .before .before .before .before .before .before .before .before .before .before .before .before .before .before .before .before .pre .1 .0 in let R = S .types in let Q = c .before .before .before .before .before .before .before .before .before .before .before .before .before .before .before .before .before .before .before .before .before .before .before .before .before .before .before .before .before .before .before .pre .1 .1 in let f = c .before .before .before .before .before .before .before .before .before .before .before .before .before .before .before .before .before .before .before .before .before .before .find-node .ensures (a .rows .now) in found-meets f (a .depth) (c .before .before .before .before .before .before .before .before .before .before .before .before .before .before .before .before .before .before .before .before .before .before .before .if1 .left) _ (c .before .before .before .before .before .before .before .before .before .before .before .before .before .before .before .form .given .1) (meets-restored (a .s) _ (rw (c .before .before .before .before .before .before .before .before .before .before .before .before .before .before .before .before .before .with-node .ensures) at (c .before .before .before .before .before .before .before .before .before .lower-leaf .ensures)) (c .restored .ensures))
 
 lower-expression-same-length-5 : (t : ℕ) → lower-expression-lts.Need-same-length-5 (lower-expression-calls t) (lower-expression-at t) lower-expression.Post
-lower-expression-same-length-5 t c = c .before .before .before .before .before .before .before .before .lower-one .kept .1 .1 .1 .1 .0
+lower-expression-same-length-5 t c = c .before .before .before .before .before .before .before .before .before .lower-one .kept .1 .1 .1 .1 .0
 
 lower-expression-same-length-6 : (t : ℕ) → lower-expression-lts.Need-same-length-6 (lower-expression-calls t) (lower-expression-at t) lower-expression.Post
-lower-expression-same-length-6 t c = c .before .before .before .before .before .before .before .before .lower-one .kept .1 .1 .1 .1 .1 .0
+lower-expression-same-length-6 t c = c .before .before .before .before .before .before .before .before .before .lower-one .kept .1 .1 .1 .1 .1 .0
 
 lower-expression-same-length-7 : (t : ℕ) → lower-expression-lts.Need-same-length-7 (lower-expression-calls t) (lower-expression-at t) lower-expression.Post
-lower-expression-same-length-7 t c = c .before .before .before .before .before .before .before .before .lower-one .kept .1 .1 .1 .1 .1 .1 .0
+lower-expression-same-length-7 t c = c .before .before .before .before .before .before .before .before .before .lower-one .kept .1 .1 .1 .1 .1 .1 .0
 
 lower-expression-same-length-8 : (t : ℕ) → lower-expression-lts.Need-same-length-8 (lower-expression-calls t) (lower-expression-at t) lower-expression.Post
-lower-expression-same-length-8 t c = c .before .before .before .before .before .before .before .before .lower-one .kept .1 .1 .1 .1 .1 .1 .1 .0
+lower-expression-same-length-8 t c = c .before .before .before .before .before .before .before .before .before .lower-one .kept .1 .1 .1 .1 .1 .1 .1 .0
 
 lower-expression-returns-3 : (t : ℕ) → lower-expression-lts.Need-returns-3 (lower-expression-calls t) (lower-expression-at t) lower-expression.Post
-lower-expression-returns-3 t c = let a = c .before .before .before .before .before .before .before .before .before .before .before .before .before .before .before .before .before .before .before .before .before .before .before .before .before .before .args in let T = tables-of (a .rows .now) (a .nodes .now) (a .lists .now) (a .counts) in let S = c .before .before .before .before .before .before .before .before .before .before .before .before .before .before .before .before .before .before .before .before .before .before .before .before .before .before .pre .1 .0 in let R = S .types in let Q = c .before .before .before .before .before .before .before .before .before .before .before .before .before .before .before .before .before .before .before .before .before .before .before .before .before .before .pre .1 .1 in let f = c .before .before .before .before .before .before .before .before .before .before .before .before .before .before .before .before .before .find-node .ensures (a .rows .now) in found-meets f (a .depth) (c .before .before .before .before .before .before .before .before .before .before .before .before .before .before .before .before .before .before .if1 .left) _ (c .before .before .before .before .before .before .before .before .before .before .before .before .before .before .form2 .given .1) (c .before .before .before .before .before .before .before .before .lower-one .ensures)
+lower-expression-returns-3 t c = let a = c .before .before .before .before .before .before .before .before .before .before .before .before .before .before .before .before .before .before .before .before .before .before .before .before .before .before .before .before .before .before .before .args in let T = tables-of (a .rows .now) (a .nodes .now) (a .lists .now) (a .counts) in let S = c .before .before .before .before .before .before .before .before .before .before .before .before .before .before .before .before .before .before .before .before .before .before .before .before .before .before .before .before .before .before .before .pre .1 .0 in let R = S .types in let Q = c .before .before .before .before .before .before .before .before .before .before .before .before .before .before .before .before .before .before .before .before .before .before .before .before .before .before .before .before .before .before .before .pre .1 .1 in let f = c .before .before .before .before .before .before .before .before .before .before .before .before .before .before .before .before .before .before .before .before .before .before .find-node .ensures (a .rows .now) in found-meets f (a .depth) (c .before .before .before .before .before .before .before .before .before .before .before .before .before .before .before .before .before .before .before .before .before .before .before .if1 .left) _ (c .before .before .before .before .before .before .before .before .before .before .before .before .before .before .before .form2 .given .1) (meets-restored (a .s) _ (rw (c .before .before .before .before .before .before .before .before .before .before .before .before .before .before .before .before .before .with-node .ensures) at (c .before .before .before .before .before .before .before .before .before .lower-one .ensures)) (c .restored2 .ensures))
 
 lower-expression-same-length-9 : (t : ℕ) → lower-expression-lts.Need-same-length-9 (lower-expression-calls t) (lower-expression-at t) lower-expression.Post
-lower-expression-same-length-9 t c = c .before .before .before .before .before .before .before .before .lower-two .kept .1 .1 .1 .1 .0
+lower-expression-same-length-9 t c = c .before .before .before .before .before .before .before .before .before .lower-two .kept .1 .1 .1 .1 .0
 
 lower-expression-same-length-10 : (t : ℕ) → lower-expression-lts.Need-same-length-10 (lower-expression-calls t) (lower-expression-at t) lower-expression.Post
-lower-expression-same-length-10 t c = c .before .before .before .before .before .before .before .before .lower-two .kept .1 .1 .1 .1 .1 .0
+lower-expression-same-length-10 t c = c .before .before .before .before .before .before .before .before .before .lower-two .kept .1 .1 .1 .1 .1 .0
 
 lower-expression-same-length-11 : (t : ℕ) → lower-expression-lts.Need-same-length-11 (lower-expression-calls t) (lower-expression-at t) lower-expression.Post
-lower-expression-same-length-11 t c = c .before .before .before .before .before .before .before .before .lower-two .kept .1 .1 .1 .1 .1 .1 .0
+lower-expression-same-length-11 t c = c .before .before .before .before .before .before .before .before .before .lower-two .kept .1 .1 .1 .1 .1 .1 .0
 
 lower-expression-same-length-12 : (t : ℕ) → lower-expression-lts.Need-same-length-12 (lower-expression-calls t) (lower-expression-at t) lower-expression.Post
-lower-expression-same-length-12 t c = c .before .before .before .before .before .before .before .before .lower-two .kept .1 .1 .1 .1 .1 .1 .1 .0
+lower-expression-same-length-12 t c = c .before .before .before .before .before .before .before .before .before .lower-two .kept .1 .1 .1 .1 .1 .1 .1 .0
 
 lower-expression-returns-4 : (t : ℕ) → lower-expression-lts.Need-returns-4 (lower-expression-calls t) (lower-expression-at t) lower-expression.Post
-lower-expression-returns-4 t c = let a = c .before .before .before .before .before .before .before .before .before .before .before .before .before .before .before .before .before .before .before .before .before .before .before .before .before .before .args in let T = tables-of (a .rows .now) (a .nodes .now) (a .lists .now) (a .counts) in let S = c .before .before .before .before .before .before .before .before .before .before .before .before .before .before .before .before .before .before .before .before .before .before .before .before .before .before .pre .1 .0 in let R = S .types in let Q = c .before .before .before .before .before .before .before .before .before .before .before .before .before .before .before .before .before .before .before .before .before .before .before .before .before .before .pre .1 .1 in let f = c .before .before .before .before .before .before .before .before .before .before .before .before .before .before .before .before .before .find-node .ensures (a .rows .now) in found-meets f (a .depth) (c .before .before .before .before .before .before .before .before .before .before .before .before .before .before .before .before .before .before .if1 .left) _ (c .before .before .before .before .before .before .before .before .before .before .before .before .before .before .form3 .given .1) (c .before .before .before .before .before .before .before .before .lower-two .ensures)
+lower-expression-returns-4 t c = let a = c .before .before .before .before .before .before .before .before .before .before .before .before .before .before .before .before .before .before .before .before .before .before .before .before .before .before .before .before .before .before .before .args in let T = tables-of (a .rows .now) (a .nodes .now) (a .lists .now) (a .counts) in let S = c .before .before .before .before .before .before .before .before .before .before .before .before .before .before .before .before .before .before .before .before .before .before .before .before .before .before .before .before .before .before .before .pre .1 .0 in let R = S .types in let Q = c .before .before .before .before .before .before .before .before .before .before .before .before .before .before .before .before .before .before .before .before .before .before .before .before .before .before .before .before .before .before .before .pre .1 .1 in let f = c .before .before .before .before .before .before .before .before .before .before .before .before .before .before .before .before .before .before .before .before .before .before .find-node .ensures (a .rows .now) in found-meets f (a .depth) (c .before .before .before .before .before .before .before .before .before .before .before .before .before .before .before .before .before .before .before .before .before .before .before .if1 .left) _ (c .before .before .before .before .before .before .before .before .before .before .before .before .before .before .before .form3 .given .1) (meets-restored (a .s) _ (rw (c .before .before .before .before .before .before .before .before .before .before .before .before .before .before .before .before .before .with-node .ensures) at (c .before .before .before .before .before .before .before .before .before .lower-two .ensures)) (c .restored3 .ensures))
 
 lower-expression-same-length-13 : (t : ℕ) → lower-expression-lts.Need-same-length-13 (lower-expression-calls t) (lower-expression-at t) lower-expression.Post
-lower-expression-same-length-13 t c = c .before .before .before .before .before .before .before .before .lower-select .kept .1 .1 .1 .1 .0
+lower-expression-same-length-13 t c = c .before .before .before .before .before .before .before .before .before .lower-select .kept .1 .1 .1 .1 .0
 
 lower-expression-same-length-14 : (t : ℕ) → lower-expression-lts.Need-same-length-14 (lower-expression-calls t) (lower-expression-at t) lower-expression.Post
-lower-expression-same-length-14 t c = c .before .before .before .before .before .before .before .before .lower-select .kept .1 .1 .1 .1 .1 .0
+lower-expression-same-length-14 t c = c .before .before .before .before .before .before .before .before .before .lower-select .kept .1 .1 .1 .1 .1 .0
 
 lower-expression-same-length-15 : (t : ℕ) → lower-expression-lts.Need-same-length-15 (lower-expression-calls t) (lower-expression-at t) lower-expression.Post
-lower-expression-same-length-15 t c = c .before .before .before .before .before .before .before .before .lower-select .kept .1 .1 .1 .1 .1 .1 .0
+lower-expression-same-length-15 t c = c .before .before .before .before .before .before .before .before .before .lower-select .kept .1 .1 .1 .1 .1 .1 .0
 
 lower-expression-same-length-16 : (t : ℕ) → lower-expression-lts.Need-same-length-16 (lower-expression-calls t) (lower-expression-at t) lower-expression.Post
-lower-expression-same-length-16 t c = c .before .before .before .before .before .before .before .before .lower-select .kept .1 .1 .1 .1 .1 .1 .1 .0
+lower-expression-same-length-16 t c = c .before .before .before .before .before .before .before .before .before .lower-select .kept .1 .1 .1 .1 .1 .1 .1 .0
 
 lower-expression-returns-5 : (t : ℕ) → lower-expression-lts.Need-returns-5 (lower-expression-calls t) (lower-expression-at t) lower-expression.Post
-lower-expression-returns-5 t c = let a = c .before .before .before .before .before .before .before .before .before .before .before .before .before .before .before .before .before .before .before .before .before .before .before .before .before .before .args in let T = tables-of (a .rows .now) (a .nodes .now) (a .lists .now) (a .counts) in let S = c .before .before .before .before .before .before .before .before .before .before .before .before .before .before .before .before .before .before .before .before .before .before .before .before .before .before .pre .1 .0 in let R = S .types in let Q = c .before .before .before .before .before .before .before .before .before .before .before .before .before .before .before .before .before .before .before .before .before .before .before .before .before .before .pre .1 .1 in let f = c .before .before .before .before .before .before .before .before .before .before .before .before .before .before .before .before .before .find-node .ensures (a .rows .now) in found-meets f (a .depth) (c .before .before .before .before .before .before .before .before .before .before .before .before .before .before .before .before .before .before .if1 .left) _ (c .before .before .before .before .before .before .before .before .before .before .before .before .before .before .form4 .given .1) (c .before .before .before .before .before .before .before .before .lower-select .ensures)
+lower-expression-returns-5 t c = let a = c .before .before .before .before .before .before .before .before .before .before .before .before .before .before .before .before .before .before .before .before .before .before .before .before .before .before .before .before .before .before .before .args in let T = tables-of (a .rows .now) (a .nodes .now) (a .lists .now) (a .counts) in let S = c .before .before .before .before .before .before .before .before .before .before .before .before .before .before .before .before .before .before .before .before .before .before .before .before .before .before .before .before .before .before .before .pre .1 .0 in let R = S .types in let Q = c .before .before .before .before .before .before .before .before .before .before .before .before .before .before .before .before .before .before .before .before .before .before .before .before .before .before .before .before .before .before .before .pre .1 .1 in let f = c .before .before .before .before .before .before .before .before .before .before .before .before .before .before .before .before .before .before .before .before .before .before .find-node .ensures (a .rows .now) in found-meets f (a .depth) (c .before .before .before .before .before .before .before .before .before .before .before .before .before .before .before .before .before .before .before .before .before .before .before .if1 .left) _ (c .before .before .before .before .before .before .before .before .before .before .before .before .before .before .before .form4 .given .1) (meets-restored (a .s) _ (rw (c .before .before .before .before .before .before .before .before .before .before .before .before .before .before .before .before .before .with-node .ensures) at (c .before .before .before .before .before .before .before .before .before .lower-select .ensures)) (c .restored4 .ensures))
 
 lower-expression-same-length-17 : (t : ℕ) → lower-expression-lts.Need-same-length-17 (lower-expression-calls t) (lower-expression-at t) lower-expression.Post
-lower-expression-same-length-17 t c = c .before .before .before .before .before .before .before .before .lower-aggregate .kept .1 .1 .1 .1 .0
+lower-expression-same-length-17 t c = c .before .before .before .before .before .before .before .before .before .lower-aggregate .kept .1 .1 .1 .1 .0
 
 lower-expression-same-length-18 : (t : ℕ) → lower-expression-lts.Need-same-length-18 (lower-expression-calls t) (lower-expression-at t) lower-expression.Post
-lower-expression-same-length-18 t c = c .before .before .before .before .before .before .before .before .lower-aggregate .kept .1 .1 .1 .1 .1 .0
+lower-expression-same-length-18 t c = c .before .before .before .before .before .before .before .before .before .lower-aggregate .kept .1 .1 .1 .1 .1 .0
 
 lower-expression-same-length-19 : (t : ℕ) → lower-expression-lts.Need-same-length-19 (lower-expression-calls t) (lower-expression-at t) lower-expression.Post
-lower-expression-same-length-19 t c = c .before .before .before .before .before .before .before .before .lower-aggregate .kept .1 .1 .1 .1 .1 .1 .0
+lower-expression-same-length-19 t c = c .before .before .before .before .before .before .before .before .before .lower-aggregate .kept .1 .1 .1 .1 .1 .1 .0
 
 lower-expression-same-length-20 : (t : ℕ) → lower-expression-lts.Need-same-length-20 (lower-expression-calls t) (lower-expression-at t) lower-expression.Post
-lower-expression-same-length-20 t c = c .before .before .before .before .before .before .before .before .lower-aggregate .kept .1 .1 .1 .1 .1 .1 .1 .0
+lower-expression-same-length-20 t c = c .before .before .before .before .before .before .before .before .before .lower-aggregate .kept .1 .1 .1 .1 .1 .1 .1 .0
 
 lower-expression-returns-6 : (t : ℕ) → lower-expression-lts.Need-returns-6 (lower-expression-calls t) (lower-expression-at t) lower-expression.Post
-lower-expression-returns-6 t c = let a = c .before .before .before .before .before .before .before .before .before .before .before .before .before .before .before .before .before .before .before .before .before .before .before .before .before .before .args in let T = tables-of (a .rows .now) (a .nodes .now) (a .lists .now) (a .counts) in let S = c .before .before .before .before .before .before .before .before .before .before .before .before .before .before .before .before .before .before .before .before .before .before .before .before .before .before .pre .1 .0 in let R = S .types in let Q = c .before .before .before .before .before .before .before .before .before .before .before .before .before .before .before .before .before .before .before .before .before .before .before .before .before .before .pre .1 .1 in let f = c .before .before .before .before .before .before .before .before .before .before .before .before .before .before .before .before .before .find-node .ensures (a .rows .now) in found-meets f (a .depth) (c .before .before .before .before .before .before .before .before .before .before .before .before .before .before .before .before .before .before .if1 .left) _ (c .before .before .before .before .before .before .before .before .before .before .before .before .before .before .form5 .given .1) (c .before .before .before .before .before .before .before .before .lower-aggregate .ensures)
+lower-expression-returns-6 t c = let a = c .before .before .before .before .before .before .before .before .before .before .before .before .before .before .before .before .before .before .before .before .before .before .before .before .before .before .before .before .before .before .before .args in let T = tables-of (a .rows .now) (a .nodes .now) (a .lists .now) (a .counts) in let S = c .before .before .before .before .before .before .before .before .before .before .before .before .before .before .before .before .before .before .before .before .before .before .before .before .before .before .before .before .before .before .before .pre .1 .0 in let R = S .types in let Q = c .before .before .before .before .before .before .before .before .before .before .before .before .before .before .before .before .before .before .before .before .before .before .before .before .before .before .before .before .before .before .before .pre .1 .1 in let f = c .before .before .before .before .before .before .before .before .before .before .before .before .before .before .before .before .before .before .before .before .before .before .find-node .ensures (a .rows .now) in found-meets f (a .depth) (c .before .before .before .before .before .before .before .before .before .before .before .before .before .before .before .before .before .before .before .before .before .before .before .if1 .left) _ (c .before .before .before .before .before .before .before .before .before .before .before .before .before .before .before .form5 .given .1) (meets-restored (a .s) _ (rw (c .before .before .before .before .before .before .before .before .before .before .before .before .before .before .before .before .before .with-node .ensures) at (c .before .before .before .before .before .before .before .before .before .lower-aggregate .ensures)) (c .restored5 .ensures))
 
 -- the m parts from j on are left
 abbrev lower-list-Inv-loop : lower-list-lts.InvT-loop
@@ -503,7 +524,7 @@ lower-select-enum-known-no : (t : ℕ) → lower-select-lts.Need-enum-known-no (
 lower-select-enum-known-no t c = search needs
 
 lower-select-expression-as-bit-requires : (t : ℕ) → lower-select-lts.Need-expression-as-bit-requires (lower-select-calls t) (lower-select-at t) lower-select.Post
-lower-select-expression-as-bit-requires t c κs = let a = c .before .before .before .before .before .before .before .before .before .before .before .before .before .before .before .before .before .before .before .before .before .before .before .before .before .before .before .before .before .before .before .before .before .before .before .before .before .before .before .before .before .before .before .args in let T = tables-of (a .rows .now) (a .nodes .now) (a .lists .now) (a .counts) in let S = c .before .before .before .before .before .before .before .before .before .before .before .before .before .before .before .before .before .before .before .before .before .before .before .before .before .before .before .before .before .before .before .before .before .before .before .before .before .before .before .before .before .before .before .pre .1 .0 in let R = S .types in let Q = c .before .before .before .before .before .before .before .before .before .before .before .before .before .before .before .before .before .before .before .before .before .before .before .before .before .before .before .before .before .before .before .before .before .before .before .before .before .before .before .before .before .before .before .pre .1 .1 in let x = value-done (c .before .before .before .before .before .before .before .before .before .before .before .before .before .before .before .before .before .before .before .before .before .before .before .before .before .before .before .before .before .before .before .lower-expression .ensures) (c .before .before .before .before .before .before .before .before .before .before .before .before .before .before .before .before .before .before .before .before .before .yes .given .1) in let y = value-done (c .before .before .before .before .before .before .before .before .before .before .before .before .before .before .before .lower-expression2 .ensures) (c .before .before .before .before .before .no .given .1) in (rank-same (a .depth) (2) (1) (c .before .before .before .before .before .before .before .before .before .before .before .before .before .before .before .before .before .before .before .before .before .before .before .before .before .before .before .before .before .before .before .before .before .before .before .before .before .before .before .before .before .before .before .pre .0) (omega arith), (S, condition-room T R Q x y))
+lower-select-expression-as-bit-requires t c κs = let a = c .before .before .before .before .before .before .before .before .before .before .before .before .before .before .before .before .before .before .before .before .before .before .before .before .before .before .before .before .before .before .before .before .before .before .before .before .before .before .before .before .before .before .before .args in let T = tables-of (a .rows .now) (a .nodes .now) (a .lists .now) (a .counts) in let S = c .before .before .before .before .before .before .before .before .before .before .before .before .before .before .before .before .before .before .before .before .before .before .before .before .before .before .before .before .before .before .before .before .before .before .before .before .before .before .before .before .before .before .before .pre .1 .0 in let R = S .types in let Q = c .before .before .before .before .before .before .before .before .before .before .before .before .before .before .before .before .before .before .before .before .before .before .before .before .before .before .before .before .before .before .before .before .before .before .before .before .before .before .before .before .before .before .before .pre .1 .1 in let x = value-done (c .before .before .before .before .before .before .before .before .before .before .before .before .before .before .before .before .before .before .before .before .before .before .before .before .before .before .before .before .before .before .before .lower-expression .ensures) (c .before .before .before .before .before .before .before .before .before .before .before .before .before .before .before .before .before .before .before .before .before .yes .given .1) in let y = value-done (c .before .before .before .before .before .before .before .before .before .before .before .before .before .before .before .lower-expression2 .ensures) (c .before .before .before .before .before .no .given .1) in (rank-same (a .depth) (2) (1) (c .before .before .before .before .before .before .before .before .before .before .before .before .before .before .before .before .before .before .before .before .before .before .before .before .before .before .before .before .before .before .before .before .before .before .before .before .before .before .before .before .before .before .before .pre .0) (omega arith), (S, condition-room T R Q x y, node-after (node-after (Q .node) x) y))
 
 lower-select-enum-known-n-2 : (t : ℕ) → lower-select-lts.Need-enum-known-n-2 (lower-select-calls t) (lower-select-at t) lower-select.Post
 lower-select-enum-known-n-2 t c = search needs
@@ -682,21 +703,27 @@ pub +expression-as-bit+lower-aggregate+lower-expression+lower-list+lower-one+low
     (lower-expression-lower-null-requires t)
     (lower-expression-returns t)
     (lower-expression-find-node-requires t)
+    (lower-expression-with-node-requires t)
     (lower-expression-enum-known-form t)
     (lower-expression-sub-lower-leaf t)
     (lower-expression-lower-leaf-requires t)
+    (lower-expression-restored-requires t)
     (lower-expression-enum-known-form-2 t)
     (lower-expression-sub-lower-one t)
     (lower-expression-lower-one-requires t)
+    (lower-expression-restored-requires-2 t)
     (lower-expression-enum-known-form-3 t)
     (lower-expression-sub-lower-two t)
     (lower-expression-lower-two-requires t)
+    (lower-expression-restored-requires-3 t)
     (lower-expression-enum-known-form-4 t)
     (lower-expression-sub-lower-select t)
     (lower-expression-lower-select-requires t)
+    (lower-expression-restored-requires-4 t)
     (lower-expression-enum-known-form-5 t)
     (lower-expression-sub-lower-aggregate t)
     (lower-expression-lower-aggregate-requires t)
+    (lower-expression-restored-requires-5 t)
     (lower-expression-same-length t)
     (lower-expression-same-length-2 t)
     (lower-expression-same-length-3 t)

@@ -85,7 +85,7 @@ same-length-3 : tie.Need-same-length-3
 same-length-3 c = search needs
 
 returns-6 : tie.Need-returns-6
-returns-6 c = let a = c .before .before .before .before .before .before .before .before .before .before .before .before .before .before .before .before .before .before .before .before .args in let S = c .before .before .before .before .before .before .before .before .before .before .before .before .before .before .before .before .before .before .before .before .pre .0 in let Q = c .before .before .before .before .before .before .before .before .before .before .before .before .before .before .before .before .before .before .before .before .pre .1 in rw (c .before .before .before .before .before .before .before .before .before .before .before .leaf3 .given .1) (c .before .before .before .before .before .before .lower-static-address .ensures (a .nodes .now) (a .stack .now) (S .types))
+returns-6 c = let a = c .before .before .before .before .before .before .before .before .before .before .before .before .before .before .before .before .before .before .before .before .args in let S = c .before .before .before .before .before .before .before .before .before .before .before .before .before .before .before .before .before .before .before .before .pre .0 in let Q = c .before .before .before .before .before .before .before .before .before .before .before .before .before .before .before .before .before .before .before .before .pre .1 in rw (c .before .before .before .before .before .before .before .before .before .before .before .leaf3 .given .1) (c .before .before .before .before .before .before .lower-static-address .ensures (a .nodes .now) (a .stack .now) (S .types) (Q .node))
 
 same-length-4 : tie.Need-same-length-4
 same-length-4 c = search needs
@@ -94,7 +94,7 @@ same-length-5 : tie.Need-same-length-5
 same-length-5 c = search needs
 
 returns-7 : tie.Need-returns-7
-returns-7 c = let a = c .before .before .before .before .before .before .before .before .before .before .before .before .before .before .before .before .before .args in let S = c .before .before .before .before .before .before .before .before .before .before .before .before .before .before .before .before .before .pre .0 in let Q = c .before .before .before .before .before .before .before .before .before .before .before .before .before .before .before .before .before .pre .1 in rw (c .before .before .before .before .before .before .before .before .leaf4 .given .1) (c .before .before .before .before .lower-function-address .ensures (tables-of (a .rows .now) (a .nodes .now) (a .lists .now) (a .counts)) (at-of (a .h)) (a .narrowed .now) (a .stack .now) (S .types))
+returns-7 c = let a = c .before .before .before .before .before .before .before .before .before .before .before .before .before .before .before .before .before .args in let S = c .before .before .before .before .before .before .before .before .before .before .before .before .before .before .before .before .before .pre .0 in let Q = c .before .before .before .before .before .before .before .before .before .before .before .before .before .before .before .before .before .pre .1 in rw (c .before .before .before .before .before .before .before .before .leaf4 .given .1) (c .before .before .before .before .lower-function-address .ensures (tables-of (a .rows .now) (a .nodes .now) (a .lists .now) (a .counts)) (at-of (a .h)) (a .narrowed .now) (a .stack .now) (S .types) (Q .node))
 
 same-length-6 : tie.Need-same-length-6
 same-length-6 c = search needs
@@ -118,7 +118,7 @@ same-length-11 : tie.Need-same-length-11
 same-length-11 c = search needs
 
 returns-9 : tie.Need-returns-9
-returns-9 c = let a = c .before .before .before .before .before .before .before .before .before .before .before .before .before .before .before .before .before .before .before .before .args in let S = c .before .before .before .before .before .before .before .before .before .before .before .before .before .before .before .before .before .before .before .before .pre .0 in let Q = c .before .before .before .before .before .before .before .before .before .before .before .before .before .before .before .before .before .before .before .before .pre .1 in rw (c .before .before .before .before .before .before .before .before .before .before .before .leaf6 .given .1) (c .before .before .before .before .before .before .lower-address-of .ensures (a .stack .now))
+returns-9 c = let a = c .before .before .before .before .before .before .before .before .before .before .before .before .before .before .before .before .before .before .before .before .args in let S = c .before .before .before .before .before .before .before .before .before .before .before .before .before .before .before .before .before .before .before .before .pre .0 in let Q = c .before .before .before .before .before .before .before .before .before .before .before .before .before .before .before .before .before .before .before .before .pre .1 in rw (c .before .before .before .before .before .before .before .before .before .before .before .leaf6 .given .1) (c .before .before .before .before .before .before .lower-address-of .ensures (a .stack .now) (Q .node))
 
 pub lower-leaf-spec : {M : Type 1} → statement M
 lower-leaf-spec =

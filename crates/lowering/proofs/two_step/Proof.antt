@@ -54,7 +54,7 @@ same-length-5 : tie.Need-same-length-5
 same-length-5 c = search needs
 
 returns-2 : tie.Need-returns-2
-returns-2 c = let a = c .before .before .before .before .before .before .before .before .before .before .before .before .before .before .before .before .before .args in let S = c .before .before .before .before .before .before .before .before .before .before .before .before .before .before .before .before .before .pre .0 in let Q = c .before .before .before .before .before .before .before .before .before .before .before .before .before .before .before .before .before .pre .1 in λ n. rw (c .before .before .before .before .before .before .before .before .step2 .given .1) (behind-compare _ (rw (c .before .before .before .before .before .before .before .before .before .before .at-top .ensures) at (c .before .before .before .before .lower-compare .ensures (a .nodes .now) n (a .stack .now))))
+returns-2 c = let a = c .before .before .before .before .before .before .before .before .before .before .before .before .before .before .before .before .before .args in let S = c .before .before .before .before .before .before .before .before .before .before .before .before .before .before .before .before .before .pre .0 in let Q = c .before .before .before .before .before .before .before .before .before .before .before .before .before .before .before .before .before .pre .1 in λ n. rw (c .before .before .before .before .before .before .before .before .step2 .given .1) (behind-compare _ (rw (c .before .before .before .before .before .before .before .before .before .before .at-top .ensures) at (c .before .before .before .before .lower-compare .ensures (a .nodes .now) n (a .stack .now) (rw (c .before .before .before .before .before .before .before .before .before .before .at-top .ensures) (Q .room .node)))))
 
 same-length-6 : tie.Need-same-length-6
 same-length-6 c = search needs
@@ -63,7 +63,7 @@ same-length-7 : tie.Need-same-length-7
 same-length-7 c = search needs
 
 returns-3 : tie.Need-returns-3
-returns-3 c = let a = c .before .before .before .before .before .before .before .before .before .before .before .before .before .before .before .before .args in let S = c .before .before .before .before .before .before .before .before .before .before .before .before .before .before .before .before .pre .0 in let Q = c .before .before .before .before .before .before .before .before .before .before .before .before .before .before .before .before .pre .1 in λ n. rw (c .before .before .before .before .before .before .before .enum-told .given .1) (behind-offset (rw (c .before .before .before .before .before .before .before .before .before .at-top .ensures) at (c .before .before .before .before .lower-pointer-offset .ensures (tables-of (a .rows .now) (a .nodes .now) (a .lists .now) (a .counts)) n (a .stack .now) (S .types))))
+returns-3 c = let a = c .before .before .before .before .before .before .before .before .before .before .before .before .before .before .before .before .args in let S = c .before .before .before .before .before .before .before .before .before .before .before .before .before .before .before .before .pre .0 in let Q = c .before .before .before .before .before .before .before .before .before .before .before .before .before .before .before .before .pre .1 in λ n. rw (c .before .before .before .before .before .before .before .enum-told .given .1) (behind-offset (rw (c .before .before .before .before .before .before .before .before .before .at-top .ensures) at (c .before .before .before .before .lower-pointer-offset .ensures (tables-of (a .rows .now) (a .nodes .now) (a .lists .now) (a .counts)) n (a .stack .now) (S .types) (rw (c .before .before .before .before .before .before .before .before .before .at-top .ensures) (Q .room .node)))))
 
 same-length-8 : tie.Need-same-length-8
 same-length-8 c = search needs

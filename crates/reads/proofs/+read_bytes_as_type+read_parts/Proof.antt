@@ -96,7 +96,7 @@ read-bytes-as-type-same-length-2 : (t : ℕ) → read-bytes-as-type-lts.Need-sam
 read-bytes-as-type-same-length-2 t c = c .before .before .before .before .read-leaf .kept .1 .1 .1 .0
 
 read-bytes-as-type-returns-2 : (t : ℕ) → read-bytes-as-type-lts.Need-returns-2 (read-bytes-as-type-calls t) (read-bytes-as-type-at t) read-bytes-as-type.Post
-read-bytes-as-type-returns-2 t c = let a = c .before .before .before .before .before .before .before .before .before .before .before .before .before .before .before .before .before .before .args in let w = a .rows .now in let ns = a .nodes .now in let ls = a .lists .now in let T = tables-of w ns ls (a .counts) in let R = c .before .before .before .before .before .before .before .before .before .before .before .before .before .before .before .before .before .before .pre .1 .0 .types in λ n. rw (read-here w ns ls (a .counts) (a .depth) (a .storage .0) (a .ty) (a .o) (at-of (a .h)) (counters-in (a .s)) _ (c .before .before .before .before .before .before .before .before .before .before .before .if1 .left) (sym (c .before .before .before .before .before .before .before .before .before .before .reading-at .ensures) ∙ c .before .before .before .before .before .before .before .before .reading .given .1)) (c .before .before .before .before .read-leaf .ensures T n _ (size-here w ns ls (a .counts) (a .ty)))
+read-bytes-as-type-returns-2 t c = let a = c .before .before .before .before .before .before .before .before .before .before .before .before .before .before .before .before .before .before .args in let w = a .rows .now in let ns = a .nodes .now in let ls = a .lists .now in let T = tables-of w ns ls (a .counts) in let R = c .before .before .before .before .before .before .before .before .before .before .before .before .before .before .before .before .before .before .pre .1 .0 .types in λ n. rw (read-here w ns ls (a .counts) (a .depth) (a .storage .0) (a .ty) (a .o) (at-of (a .h)) (counters-in (a .s)) _ (c .before .before .before .before .before .before .before .before .before .before .before .if1 .left) (sym (c .before .before .before .before .before .before .before .before .before .before .reading-at .ensures) ∙ c .before .before .before .before .before .before .before .before .reading .given .1)) (c .before .before .before .before .read-leaf .ensures T n _ (size-here w ns ls (a .counts) (a .ty)) (c .before .before .before .before .before .before .before .before .before .before .before .before .before .before .before .before .before .before .pre .1 .1 .node))
 
 read-bytes-as-type-same-length-3 : (t : ℕ) → read-bytes-as-type-lts.Need-same-length-3 (read-bytes-as-type-calls t) (read-bytes-as-type-at t) read-bytes-as-type.Post
 read-bytes-as-type-same-length-3 t c = c .before .before .before .before .before .before .before .read-parts .kept .1 .1 .1 .1 .0

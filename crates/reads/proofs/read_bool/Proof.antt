@@ -18,7 +18,7 @@ same-length-2 : tie.Need-same-length-2
 same-length-2 c = search needs
 
 returns : tie.Need-returns
-returns c = λ T h n stack. bool-meets T _ _ _ _ h n stack (c .before .before .before .before .before .before .before .before .allocate-bit-temporary .ensures) (c .before .before .emit .ensures)
+returns c = λ T h n stack e. bool-meets T _ _ _ _ h n stack e (c .before .before .before .before .before .before .before .before .allocate-bit-temporary .ensures) (c .before .before .emit .ensures)
 
 pub read-bool-spec : {M : Type 1} → statement M
 read-bool-spec =

@@ -41,7 +41,7 @@ same-length-4 : tie.Need-same-length-4
 same-length-4 c = search needs
 
 returns-2 : tie.Need-returns-2
-returns-2 c = let a = c .before .before .before .before .before .before .before .before .before .before .before .before .before .before .before .before .before .before .before .before .before .before .before .before .before .before .before .args in let T = tables-of (a .rows .now) (a .nodes .now) (a .lists .now) (a .counts) in let w = c .before .before .before .before .before .before .before .before .before .before .before .before .before .before .before .before .before .allocate-temporary .ensures T (size-here (a .rows .now) (a .nodes .now) (a .lists .now) (a .counts) (a .h .ty) ∙ sym (c .before .before .before .before .before .before .before .before .before .before .before .before .before .before .before .before .before .before .before .type-size .ensures)) in λ n. select-meets T _ _ _ _ _ _ (a .s) w (at-of (a .h)) (c .before .before .before .before .before .before .before .before .before .before .before .before .before .new .given .1) (omega (arith, c .before .before .before .before .before .before .before .before .before .before .before .before .before .before .before .before .before .before .before .before .before .before .before .before .before .before .before .good .1 .1 .1 .1 .0)) (omega (arith, c .before .before .before .before .before .before .before .before .before .before .before .before .before .before .before .before .before .before .before .before .before .before .before .before .before .before .before .good .1 .1 .1 .1 .1 .1 .1 .0)) (omega (arith, c .before .before .before .before .before .before .before .before .before .before .before .before .before .before .before .before .before .before .before .before .before .before .before .before .before .before .before .pre .6, c .before .before .before .before .before .before .before .before .before .before .before .before .before .before .before .before .before .before .before .before .before .before .before .before .before .before .before .pre .7, c .before .before .before .before .before .before .before .before .before .before .before .before .before .before .before .before .before .before .before .before .before .before .before .before .before .before .before .pre .8)) (c .before .before .before .before .before .before .select-into .ensures n)
+returns-2 c = let a = c .before .before .before .before .before .before .before .before .before .before .before .before .before .before .before .before .before .before .before .before .before .before .before .before .before .before .before .args in let T = tables-of (a .rows .now) (a .nodes .now) (a .lists .now) (a .counts) in let w = c .before .before .before .before .before .before .before .before .before .before .before .before .before .before .before .before .before .allocate-temporary .ensures T (size-here (a .rows .now) (a .nodes .now) (a .lists .now) (a .counts) (a .h .ty) ∙ sym (c .before .before .before .before .before .before .before .before .before .before .before .before .before .before .before .before .before .before .before .type-size .ensures)) in λ n. select-meets T _ _ _ _ _ _ (a .s) w (at-of (a .h)) (c .before .before .before .before .before .before .before .before .before .before .before .before .before .new .given .1) (omega (arith, c .before .before .before .before .before .before .before .before .before .before .before .before .before .before .before .before .before .before .before .before .before .before .before .before .before .before .before .good .1 .1 .1 .1 .0)) (omega (arith, c .before .before .before .before .before .before .before .before .before .before .before .before .before .before .before .before .before .before .before .before .before .before .before .before .before .before .before .good .1 .1 .1 .1 .1 .1 .1 .0)) (omega (arith, c .before .before .before .before .before .before .before .before .before .before .before .before .before .before .before .before .before .before .before .before .before .before .before .before .before .before .before .pre .6, c .before .before .before .before .before .before .before .before .before .before .before .before .before .before .before .before .before .before .before .before .before .before .before .before .before .before .before .pre .7, c .before .before .before .before .before .before .before .before .before .before .before .before .before .before .before .before .before .before .before .before .before .before .before .before .before .before .before .pre .8)) (c .before .before .before .before .before .before .before .before .before .before .before .before .before .before .before .before .before .before .before .before .before .before .before .before .before .before .before .pre .1 .node) (c .before .before .before .before .before .before .select-into .ensures n)
 
 pub lower-select-spec : {M : Type 1} → statement M
 lower-select-spec =

@@ -44,7 +44,7 @@ same-length-5 : tie.Need-same-length-5
 same-length-5 c = search needs
 
 returns-2 : tie.Need-returns-2
-returns-2 c = let a = c .before .before .before .before .before .before .before .before .before .before .before .before .before .before .before .before .before .before .before .before .before .before .before .before .before .args in let T = tables-of (a .rows .now) (a .nodes .now) (a .lists .now) (a .counts) in let ts = operands-of (head-of (a .t) ∷ heads (a .stack .now) (a .s .top) (a .middle)) in let fs = operands-of (head-of (a .f) ∷ heads (a .stack .now) (a .middle) (a .end)) in λ n. fill-meets T (bit-operand-of (a .c)) (a .t .ty) (a .f .ty) (a .to .0) (a .h .ty) ts fs (a .s) {code = a .code .now} (a .store .now) _ (c .before .before .before .before .before .before .before .before .before .before .before .before .before .before .before .before .before .before .before .before .before .before .before .before .before .pre .1 .sized) (omega (arith, c .before .before .before .before .before .before .before .before .before .before .before .before .before .before .before .before .before .before .before .before .before .before .before .before .before .good .1 .1 .1 .1 .1 .0)) (c .before .before .before .before .before .before .before .before .before .before .before .before .before .before .before .select-to-location .ensures) (at-of (a .h)) (c .before .before .before .before .before .before .before .before .before .before .before .after .given .1) (omega (arith, c .before .before .before .before .before .before .before .before .before .before .before .before .before .before .before .before .before .before .before .before .before .before .before .before .before .pre .2 .below, c .before .before .before .before .before .before .before .before .before .before .before .before .before .before .before .before .before .before .before .before .before .before .before .before .before .pre .2 .behind, c .before .before .before .before .before .before .before .before .before .before .before .before .before .before .before .before .before .before .before .before .before .before .before .before .before .pre .2 .fits)) (c .before .before .before .before .before .before .read-location .ensures n)
+returns-2 c = let a = c .before .before .before .before .before .before .before .before .before .before .before .before .before .before .before .before .before .before .before .before .before .before .before .before .before .args in let T = tables-of (a .rows .now) (a .nodes .now) (a .lists .now) (a .counts) in let ts = operands-of (head-of (a .t) ∷ heads (a .stack .now) (a .s .top) (a .middle)) in let fs = operands-of (head-of (a .f) ∷ heads (a .stack .now) (a .middle) (a .end)) in λ n. fill-meets T (bit-operand-of (a .c)) (a .t .ty) (a .f .ty) (a .to .0) (a .h .ty) ts fs (a .s) {code = a .code .now} (a .store .now) _ (c .before .before .before .before .before .before .before .before .before .before .before .before .before .before .before .before .before .before .before .before .before .before .before .before .before .pre .1 .sized) (omega (arith, c .before .before .before .before .before .before .before .before .before .before .before .before .before .before .before .before .before .before .before .before .before .before .before .before .before .good .1 .1 .1 .1 .1 .0)) (c .before .before .before .before .before .before .before .before .before .before .before .before .before .before .before .select-to-location .ensures) (at-of (a .h)) (c .before .before .before .before .before .before .before .before .before .before .before .after .given .1) (omega (arith, c .before .before .before .before .before .before .before .before .before .before .before .before .before .before .before .before .before .before .before .before .before .before .before .before .before .pre .2 .below, c .before .before .before .before .before .before .before .before .before .before .before .before .before .before .before .before .before .before .before .before .before .before .before .before .before .pre .2 .behind, c .before .before .before .before .before .before .before .before .before .before .before .before .before .before .before .before .before .before .before .before .before .before .before .before .before .pre .2 .fits)) (c .before .before .before .before .before .before .before .before .before .before .before .before .before .before .before .before .before .before .before .before .before .before .before .before .before .pre .1 .node) (c .before .before .before .before .before .before .read-location .ensures n)
 
 pub select-into-spec : {M : Type 1} → statement M
 select-into-spec =

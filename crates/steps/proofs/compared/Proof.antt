@@ -18,7 +18,7 @@ bit-value-requires : tie.Need-bit-value-requires
 bit-value-requires c κs = search needs
 
 returns : tie.Need-returns
-returns c = λ o n stack e. value-stops (compared-float o _ _ _ (at-of (c .before .before .before .before .before .args .h)) _ (rw (c .enum-told .given .1) at e))
+returns c = λ o n stack e nd. value-stops (compared-float o _ _ _ (at-of (c .before .before .before .before .before .args .h)) _ (rw (c .enum-told .given .1) at e))
 
 same-length : tie.Need-same-length
 same-length c = search needs
@@ -27,7 +27,7 @@ same-length-2 : tie.Need-same-length-2
 same-length-2 c = search needs
 
 returns-2 : tie.Need-returns-2
-returns-2 c = λ o n stack e. compared-meets (c .before .before .before .before .before .compare .result) o _ _ _ (at-of (c .before .before .before .before .before .before .before .before .before .before .before .before .before .before .args .h)) n stack (c .before .before .before .before .before .compare .ensures o (rw (c .before .before .before .before .before .before .before .before .before .op .given .1) at e)) (c .bit-value .ensures)
+returns-2 c = λ o n stack e nd. compared-meets (c .before .before .before .before .before .compare .result) o _ _ _ (at-of (c .before .before .before .before .before .before .before .before .before .before .before .before .before .before .args .h)) n stack nd (c .before .before .before .before .before .compare .ensures o (rw (c .before .before .before .before .before .before .before .before .before .op .given .1) at e)) (c .bit-value .ensures)
 
 pub compared-spec : {M : Type 1} → statement M
 compared-spec =

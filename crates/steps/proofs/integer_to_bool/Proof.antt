@@ -24,7 +24,7 @@ same-length-2 : tie.Need-same-length-2
 same-length-2 c = search needs
 
 returns : tie.Need-returns
-returns c = λ nodes m stack. bool-stopped _ _ (at-of (c .before .before .before .before .before .before .before .before .before .before .before .before .before .before .before .args .h)) (c .before .before .before .before .before .before .before .before .before .before .before .before .before .before .before .args .s) m stack (c .before .before .before .before .before .before .before .not-zero .ensures nodes) (c .before .n .given .1)
+returns c = λ nodes m stack nd. bool-stopped _ _ (at-of (c .before .before .before .before .before .before .before .before .before .before .before .before .before .before .before .args .h)) (c .before .before .before .before .before .before .before .before .before .before .before .before .before .before .before .args .s) m stack (c .before .before .before .before .before .before .before .not-zero .ensures nodes) (c .before .n .given .1)
 
 same-length-3 : tie.Need-same-length-3
 same-length-3 c = search needs
@@ -33,7 +33,7 @@ same-length-4 : tie.Need-same-length-4
 same-length-4 c = search needs
 
 returns-2 : tie.Need-returns-2
-returns-2 c = λ nodes m stack. bool-new _ _ (at-of (c .before .before .before .before .before .before .before .before .before .before .before .before .before .before .before .before .args .h)) (c .before .before .before .before .before .before .before .before .before .before .before .before .before .before .before .before .args .s) m stack (c .before .before .before .before .before .before .before .before .not-zero .ensures nodes) (c .before .before .new .given .1) (c .bit-value .ensures)
+returns-2 c = λ nodes m stack nd. bool-new _ _ (at-of (c .before .before .before .before .before .before .before .before .before .before .before .before .before .before .before .before .args .h)) (c .before .before .before .before .before .before .before .before .before .before .before .before .before .before .before .before .args .s) m stack nd (c .before .before .before .before .before .before .before .before .not-zero .ensures nodes) (c .before .before .new .given .1) (c .bit-value .ensures)
 
 pub integer-to-bool-spec : {M : Type 1} → statement M
 integer-to-bool-spec =

@@ -20,7 +20,7 @@ storage-address-requires : tie.Need-storage-address-requires
 storage-address-requires c κs = (readable-sized _ _ _ _ (c .before .before .before .before .before .before .before .before .before .before .before .before .before .pre .0), c .before .before .before .before .before .before .before .before .before .before .before .before .before .pre .1)
 
 returns : tie.Need-returns
-returns c = λ stack. value-stops (based-refused _ _ _ _ (at-of (c .before .before .before .before .before .before .before .before .before .before .args .h)) _ (c .before .before .before .resolve-addressed-place .ensures) (c .before .n .given .1))
+returns c = λ stack nd. value-stops (based-refused _ _ _ _ (at-of (c .before .before .before .before .before .before .before .before .before .before .args .h)) _ (c .before .before .before .resolve-addressed-place .ensures) (c .before .n .given .1))
 
 same-length : tie.Need-same-length
 same-length c = search needs
@@ -32,7 +32,7 @@ same-length-3 : tie.Need-same-length-3
 same-length-3 c = search needs
 
 returns-2 : tie.Need-returns-2
-returns-2 c = λ stack. meets-as (based-found _ _ _ _ (at-of (c .before .before .before .before .before .before .before .before .before .before .before .before .before .before .before .before .before .before .before .before .args .h)) _ (c .before .before .before .before .before .before .before .before .before .before .before .before .before .resolve-addressed-place .ensures) (c .before .before .before .before .before .before .before .before .before .before .before .b .given .1)) (c .before .before .before .before .before .before .storage-address .ensures _ stack (c .before .before .before .before .before .before .before .before .before .before .before .before .before .before .before .before .before .before .before .before .pre .0 .types))
+returns-2 c = λ stack nd. meets-as (based-found _ _ _ _ (at-of (c .before .before .before .before .before .before .before .before .before .before .before .before .before .before .before .before .before .before .before .before .args .h)) _ (c .before .before .before .before .before .before .before .before .before .before .before .before .before .resolve-addressed-place .ensures) (c .before .before .before .before .before .before .before .before .before .before .before .b .given .1)) (c .before .before .before .before .before .before .storage-address .ensures _ stack (c .before .before .before .before .before .before .before .before .before .before .before .before .before .before .before .before .before .before .before .before .pre .0 .types) nd)
 
 pub lower-address-of-spec : {M : Type 1} → statement M
 lower-address-of-spec =

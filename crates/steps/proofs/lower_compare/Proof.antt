@@ -39,13 +39,13 @@ compared-requires : tie.Need-compared-requires
 compared-requires c κs = (rw (c .before .before .before .before .before .before .before .before .left .given .1) at (c .before .before .before .before .before .before .before .before .before .before .value-bytes .ensures .small), rw (c .before .before .before .before .right .given .1) at (c .before .before .before .before .before .before .value-bytes2 .ensures .small), c .before .before .before .before .before .before .before .before .before .before .before .before .before .before .before .before .before .before .before .pre .3)
 
 returns : tie.Need-returns
-returns c = λ nodes n stack. value-stops (compare-no-width _ _ _ _ (at-of (c .before .before .before .before .before .before .before .args .h)) _ (wide (c .before .before .before .before .before .before .before .args .l) (rw (c .enum-told .given .1) at (c .before .before .integer-width .ensures nodes))))
+returns c = λ nodes n stack nd. value-stops (compare-no-width _ _ _ _ (at-of (c .before .before .before .before .before .before .before .args .h)) _ (wide (c .before .before .before .before .before .before .before .args .l) (rw (c .enum-told .given .1) at (c .before .before .integer-width .ensures nodes))))
 
 returns-2 : tie.Need-returns-2
-returns-2 c = λ nodes n stack. value-stops (compare-no-left _ _ _ _ (at-of (c .before .before .before .before .before .before .before .before .before .before .before .args .h)) _ (wide (c .before .before .before .before .before .before .before .before .before .before .before .args .l) (rw (c .before .before .before .before .width .given .1) at (c .before .before .before .before .before .before .integer-width .ensures nodes))) (rw (c .enum-told2 .given .1) at (c .before .before .value-bytes .ensures .is)))
+returns-2 c = λ nodes n stack nd. value-stops (compare-no-left _ _ _ _ (at-of (c .before .before .before .before .before .before .before .before .before .before .before .args .h)) _ (wide (c .before .before .before .before .before .before .before .before .before .before .before .args .l) (rw (c .before .before .before .before .width .given .1) at (c .before .before .before .before .before .before .integer-width .ensures nodes))) (rw (c .enum-told2 .given .1) at (c .before .before .value-bytes .ensures .is)))
 
 returns-3 : tie.Need-returns-3
-returns-3 c = λ nodes n stack. value-stops (compare-no-right _ _ _ _ (at-of (c .before .before .before .before .before .before .before .before .before .before .before .before .before .before .before .args .h)) _ (wide (c .before .before .before .before .before .before .before .before .before .before .before .before .before .before .before .args .l) (rw (c .before .before .before .before .before .before .before .before .width .given .1) at (c .before .before .before .before .before .before .before .before .before .before .integer-width .ensures nodes))) (rw (c .before .before .before .before .left .given .1) at (c .before .before .before .before .before .before .value-bytes .ensures .is)) (rw (c .enum-told3 .given .1) at (c .before .before .value-bytes2 .ensures .is)))
+returns-3 c = λ nodes n stack nd. value-stops (compare-no-right _ _ _ _ (at-of (c .before .before .before .before .before .before .before .before .before .before .before .before .before .before .before .args .h)) _ (wide (c .before .before .before .before .before .before .before .before .before .before .before .before .before .before .before .args .l) (rw (c .before .before .before .before .before .before .before .before .width .given .1) at (c .before .before .before .before .before .before .before .before .before .before .integer-width .ensures nodes))) (rw (c .before .before .before .before .left .given .1) at (c .before .before .before .before .before .before .value-bytes .ensures .is)) (rw (c .enum-told3 .given .1) at (c .before .before .value-bytes2 .ensures .is)))
 
 same-length : tie.Need-same-length
 same-length c = search needs
@@ -54,7 +54,7 @@ same-length-2 : tie.Need-same-length-2
 same-length-2 c = search needs
 
 returns-4 : tie.Need-returns-4
-returns-4 c = λ nodes n stack. compare-meets _ _ _ _ (at-of (c .before .before .before .before .before .before .before .before .before .before .before .before .before .before .before .before .before .before .before .before .before .before .before .before .args .h)) (wide (c .before .before .before .before .before .before .before .before .before .before .before .before .before .before .before .before .before .before .before .before .before .before .before .before .args .l) (rw (c .before .before .before .before .before .before .before .before .before .before .before .before .before .before .before .before .before .width .given .1) at (c .before .before .before .before .before .before .before .before .before .before .before .before .before .before .before .before .before .before .before .integer-width .ensures nodes))) (rw (c .before .before .before .before .before .before .before .before .before .before .before .before .before .left .given .1) at (c .before .before .before .before .before .before .before .before .before .before .before .before .before .before .before .value-bytes .ensures .is)) (rw (c .before .before .before .before .before .before .before .before .before .right .given .1) at (c .before .before .before .before .before .before .before .before .before .before .before .value-bytes2 .ensures .is)) (c .before .before .before .before .compared .ensures _ n stack (c .before .before .before .before .before .compare-op .ensures))
+returns-4 c = λ nodes n stack nd. compare-meets _ _ _ _ (at-of (c .before .before .before .before .before .before .before .before .before .before .before .before .before .before .before .before .before .before .before .before .before .before .before .before .args .h)) (wide (c .before .before .before .before .before .before .before .before .before .before .before .before .before .before .before .before .before .before .before .before .before .before .before .before .args .l) (rw (c .before .before .before .before .before .before .before .before .before .before .before .before .before .before .before .before .before .width .given .1) at (c .before .before .before .before .before .before .before .before .before .before .before .before .before .before .before .before .before .before .before .integer-width .ensures nodes))) (rw (c .before .before .before .before .before .before .before .before .before .before .before .before .before .left .given .1) at (c .before .before .before .before .before .before .before .before .before .before .before .before .before .before .before .value-bytes .ensures .is)) (rw (c .before .before .before .before .before .before .before .before .before .right .given .1) at (c .before .before .before .before .before .before .before .before .before .before .before .value-bytes2 .ensures .is)) (c .before .before .before .before .compared .ensures _ n stack (c .before .before .before .before .before .compare-op .ensures) nd)
 
 pub lower-compare-spec : {M : Type 1} → statement M
 lower-compare-spec =

@@ -21,7 +21,7 @@ same-length-2 : tie.Need-same-length-2
 same-length-2 c = search needs
 
 returns : tie.Need-returns
-returns c = λ T h n stack R. function-meets T R (c .before .before .before .before .before .before .before .before .before .allocate-pointer .result .id) _ h n stack (c .before .before .before .before .before .before .before .before .before .allocate-pointer .ensures) (c .before .before .before .function-address .ensures) (c .pointer-value .ensures)
+returns c = λ T h n stack R nd. function-meets T R (c .before .before .before .before .before .before .before .before .before .allocate-pointer .result .id) _ h n stack nd (c .before .before .before .before .before .before .before .before .before .allocate-pointer .ensures) (c .before .before .before .function-address .ensures) (c .pointer-value .ensures)
 
 pub lower-function-address-spec : {M : Type 1} → statement M
 lower-function-address-spec =

@@ -19,7 +19,7 @@ storage-address-requires : tie.Need-storage-address-requires
 storage-address-requires c κs = search needs
 
 returns : tie.Need-returns
-returns c = λ nodes stack R. value-stops (static-missing _ nodes _ _ _ _ (at-of (c .before .before .before .before .before .before .before .before .args .h)) _ (c .before .before .static-at .ensures) (c .enum-told .given .1))
+returns c = λ nodes stack R nd. value-stops (static-missing _ nodes _ _ _ _ (at-of (c .before .before .before .before .before .before .before .before .args .h)) _ (c .before .before .static-at .ensures) (c .enum-told .given .1))
 
 same-length : tie.Need-same-length
 same-length c = search needs
@@ -31,7 +31,7 @@ same-length-3 : tie.Need-same-length-3
 same-length-3 c = search needs
 
 returns-2 : tie.Need-returns-2
-returns-2 c = λ nodes stack R. meets-as (static-found _ nodes _ _ _ _ (at-of (c .before .before .before .before .before .before .before .before .before .before .before .before .before .before .before .before .before .before .before .before .args .h)) _ (c .before .before .before .before .before .before .before .before .before .before .before .before .before .before .static-at .ensures) (c .before .before .before .before .before .before .before .before .before .before .before .before .p .given .1)) (c .before .before .before .before .before .before .storage-address .ensures nodes stack R)
+returns-2 c = λ nodes stack R nd. meets-as (static-found _ nodes _ _ _ _ (at-of (c .before .before .before .before .before .before .before .before .before .before .before .before .before .before .before .before .before .before .before .before .args .h)) _ (c .before .before .before .before .before .before .before .before .before .before .before .before .before .before .static-at .ensures) (c .before .before .before .before .before .before .before .before .before .before .before .before .p .given .1)) (c .before .before .before .before .before .before .storage-address .ensures nodes stack R nd)
 
 pub lower-static-address-spec : {M : Type 1} → statement M
 lower-static-address-spec =

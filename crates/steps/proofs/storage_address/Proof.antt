@@ -7,7 +7,7 @@ use Rattle.steps.proofs.storage_address.Statement.{statement}
 use Rattle.steps.proofs.storage_address.Tie as tie
 
 returns : tie.Need-returns
-returns c = λ nodes stack R. value-stops (address-refused _ _ _ _ (at-of (c .before .before .before .before .before .before .args .h)) _ (c .if1 .taken))
+returns c = λ nodes stack R nd. value-stops (address-refused _ _ _ _ (at-of (c .before .before .before .before .before .before .args .h)) _ (c .if1 .taken))
 
 narrow-requires : tie.Need-narrow-requires
 narrow-requires c κs = search needs
@@ -31,7 +31,7 @@ same-length-3 : tie.Need-same-length-3
 same-length-3 c = search needs
 
 returns-2 : tie.Need-returns-2
-returns-2 c = λ nodes stack R. address-meets _ nodes _ _ _ _ _ (c .before .before .before .before .before .before .before .before .before .allocate-pointer .result .id) (at-of (c .before .before .before .before .before .before .before .before .before .before .before .before .before .before .before .before .before .before .before .before .before .before .args .h)) _ _ stack R (c .before .before .before .before .before .before .before .before .before .before .before .before .before .before .before .before .if1 .left) (c .before .before .before .before .before .before .before .before .before .before .before .before .before .before .narrow .ensures) (c .before .before .before .before .before .before .before .before .before .allocate-pointer .ensures) (c .before .before .before .address-of .ensures) (c .pointer-value .ensures)
+returns-2 c = λ nodes stack R nd. address-meets _ nodes _ _ _ _ _ (c .before .before .before .before .before .before .before .before .before .allocate-pointer .result .id) (at-of (c .before .before .before .before .before .before .before .before .before .before .before .before .before .before .before .before .before .before .before .before .before .before .args .h)) _ _ stack nd R (c .before .before .before .before .before .before .before .before .before .before .before .before .before .before .before .before .if1 .left) (c .before .before .before .before .before .before .before .before .before .before .before .before .before .before .narrow .ensures) (c .before .before .before .before .before .before .before .before .before .allocate-pointer .ensures) (c .before .before .before .address-of .ensures) (c .pointer-value .ensures)
 
 pub storage-address-spec : {M : Type 1} → statement M
 storage-address-spec =

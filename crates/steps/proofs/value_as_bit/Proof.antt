@@ -28,7 +28,7 @@ bit-operand-requires : tie.Need-bit-operand-requires
 bit-operand-requires c κs = search needs
 
 returns : tie.Need-returns
-returns c = λ nodes m stack. bit-own _ (c .before .before .before .before .before .before .before .before .before .args .v) _ (at-of (c .before .before .before .before .before .before .before .before .before .args .h)) (rw (c .before .b .given .1) at (c .before .before .before .value-bit .ensures)) (record { code = omega arith; store = omega arith; at = omega (arith, c .before .before .before .before .before .before .before .before .before .good .1 .1 .1 .1 .1 .0); stored = omega (arith, c .before .before .before .before .before .before .before .before .before .good .1 .1 .1 .1 .1 .0) })
+returns c = λ nodes m stack nd. bit-own _ (c .before .before .before .before .before .before .before .before .before .args .v) _ (at-of (c .before .before .before .before .before .before .before .before .before .args .h)) (rw (c .before .b .given .1) at (c .before .before .before .value-bit .ensures)) (record { code = omega arith; store = omega arith; at = omega (arith, c .before .before .before .before .before .before .before .before .before .good .1 .1 .1 .1 .1 .0); stored = omega (arith, c .before .before .before .before .before .before .before .before .before .good .1 .1 .1 .1 .1 .0) })
 
 same-length : tie.Need-same-length
 same-length c = search needs
@@ -37,7 +37,7 @@ same-length-2 : tie.Need-same-length-2
 same-length-2 c = search needs
 
 returns-2 : tie.Need-returns-2
-returns-2 c = λ nodes m stack. bit-stopped _ _ (at-of (c .before .before .before .before .before .before .before .before .before .before .before .before .before .before .before .before .before .before .args .h)) (c .before .before .before .before .before .before .before .before .before .before .before .before .before .before .before .before .before .before .args .s) m stack (rw (c .before .before .before .before .before .before .before .before .before .before .enum-told .given .1) at (c .before .before .before .before .before .before .before .before .before .before .before .before .value-bit .ensures .is)) (c .before .before .before .before .before .before .before .not-zero .ensures nodes) (c .before .n .given .1)
+returns-2 c = λ nodes m stack nd. bit-stopped _ _ (at-of (c .before .before .before .before .before .before .before .before .before .before .before .before .before .before .before .before .before .before .args .h)) (c .before .before .before .before .before .before .before .before .before .before .before .before .before .before .before .before .before .before .args .s) m stack (rw (c .before .before .before .before .before .before .before .before .before .before .enum-told .given .1) at (c .before .before .before .before .before .before .before .before .before .before .before .before .value-bit .ensures .is)) (c .before .before .before .before .before .before .before .not-zero .ensures nodes) (c .before .n .given .1)
 
 same-length-3 : tie.Need-same-length-3
 same-length-3 c = search needs
@@ -46,7 +46,7 @@ same-length-4 : tie.Need-same-length-4
 same-length-4 c = search needs
 
 returns-3 : tie.Need-returns-3
-returns-3 c = λ nodes m stack. bit-new _ _ (at-of (c .before .before .before .before .before .before .before .before .before .before .before .before .before .before .before .before .before .before .before .args .h)) (c .before .before .before .before .before .before .before .before .before .before .before .before .before .before .before .before .before .before .before .args .s) m stack (rw (c .before .before .before .before .before .before .before .before .before .before .before .enum-told .given .1) at (c .before .before .before .before .before .before .before .before .before .before .before .before .before .value-bit .ensures .is)) (c .before .before .before .before .before .before .before .before .not-zero .ensures nodes) (c .before .before .new .given .1) (c .bit-operand .ensures)
+returns-3 c = λ nodes m stack nd. bit-new _ _ (at-of (c .before .before .before .before .before .before .before .before .before .before .before .before .before .before .before .before .before .before .before .args .h)) (c .before .before .before .before .before .before .before .before .before .before .before .before .before .before .before .before .before .before .before .args .s) m stack nd (rw (c .before .before .before .before .before .before .before .before .before .before .before .enum-told .given .1) at (c .before .before .before .before .before .before .before .before .before .before .before .before .before .value-bit .ensures .is)) (c .before .before .before .before .before .before .before .before .not-zero .ensures nodes) (c .before .before .new .given .1) (c .bit-operand .ensures)
 
 pub value-as-bit-spec : {M : Type 1} → statement M
 value-as-bit-spec =
