@@ -1,18 +1,19 @@
 #!/usr/bin/env python3
 """Writes the tickets that the program listing_tests replays on the public entry.
 
-    tools/listing_vectors.py SAMPLES [OUT]
+    tools/listing_vectors.py [--out OUT] SAMPLES..
 
-SAMPLES is the folder of the sample tickets, each NAME.in with its answer NAME.out; OUT is the crate's folder (default: crates/listing_tests
-beside this script's folder). Written are stdin, the tickets with their answers, and stdout, what the program must print. A ticket is a header
+SAMPLES are folders of sample tickets, each NAME.in with its answer NAME.out; where a later folder has an answer of the same name, it is taken.
+OUT is the crate's folder (default: crates/listing_tests beside this script's folder). Written are stdin, the tickets with their answers, and stdout, what the program must print. A ticket is a header
 of 16 bytes, `LENGTH,LENGTH` and line feeds behind it, then the ticket's bytes and the answer's: a listing, or the line `refused,NUMBER,LINE`.
 
-The samples are 1,759 tickets answered by the unchanged Rust: `lower_expression` of docs/src lowered them, and a program written from
+The samples are 1,783 tickets answered by the unchanged Rust: `lower_expression` of docs/src lowered them, and a program written from
 documents 01 and 02 did the reading, the refusals' lines, the printing and the node of each instruction. Their kinds, by name: typed and deep (rightly typed, nested), single (one
 operation at width 8, 16, 32 or 64), singleany (widths 1 to 64), wild and small (readable, of any types), limits (near the limits), broken
-(damaged text).
+(damaged text), large (up to document 02's limits: every fifth of them, for the file's length).
 
-The tickets below come from document 01: its edges, the lines 'Compared only', its temptations, and what no sample meets. Each answer was
+The tickets below come from document 01: its edges, the lines 'Compared only', its temptations, and what no sample meets; and from document
+02's limits. Each answer was
 worked out by hand from the paper and the Rust that it points to; no program made it.
 """
 import os
@@ -190,32 +191,81 @@ def text_lengths():
         case("a text of %d bytes" % size, head + fixed + "t,struct" + ",2" * (rest // 2) + "/n,1,null/", answer)
 
 
-def answers(samples):
-    """The pairs of the samples' folder, by name."""
-    names = sorted(x[:-3] for x in os.listdir(samples) if x.endswith(".in"))
-    pairs = []
-    for name in names:
-        with open(os.path.join(samples, name + ".in"), "rb") as ticket, open(os.path.join(samples, name + ".out"), "rb") as answer:
-            pairs.append((ticket.read(), answer.read()))
-    return pairs
+def numbers(n):
+    return "".join(",%d" % i for i in range(n))
+
+
+def limits():
+    # Document 02's limits: the last ticket within and the first beyond; no instruction is made.
+    def nodes(n):
+        return HEAD + "n,1,null/" * (n - 1) + "n,1,aggregate" + numbers(n - 1) + "/"
+    case("900 nodes", nodes(900), "value,1,aggregate,899/" + "value,1,bytes,2,#0,#0/" * 899 + "done,0,0,0/")
+    case("1,024 nodes", nodes(1024), "value,1,aggregate,1023/" + "value,1,bytes,2,#0,#0/" * 1023 + "done,0,0,0/")
+    case("1,025 nodes", nodes(1025), "refused,8,1028/")  # 3 lines, 1,024 nodes
+
+    # Two places for each read of a Unit.
+    def places(n):
+        pairs = "".join("p,variable,0/p,field,%d,0/n,2,read,%d/" % (2 * i, 2 * i + 1) for i in range(n // 2))
+        rest = "p,variable,1/n,2,read,%d/" % (n - 1) if n % 2 else ""
+        return HEAD + "t,unit/t,struct,2/s,1,0,1,36/v,0,0,3,0/v,0,0,2,0/" + pairs + rest + "n,2,aggregate" + numbers((n + 1) // 2) + "/"
+    case("1,024 places", places(1024), "value,2,aggregate,512/" + "value,2,unit/" * 512 + "done,0,0,0/")
+    case("1,025 places", places(1025), "refused,8,1545/")  # 8 lines, 1,024 places and their 512 nodes
+
+    # Reads of 1,024 bytes each, and of what is left.
+    def sizes(n):
+        reads = "".join("p,variable,%d/n,%d,read,%d/" % (i // 8, 3 + i // 8, i) for i in range(9))
+        return HEAD + "t,unit/t,opaque,1024/t,opaque,%d/s,2,1024,1,36/v,0,0,3,0/v,0,0,4,0/" % (n - 8192) + reads + "n,2,aggregate" + numbers(9) + "/"
+    whole = "value,3,bytes,1024," + ",".join("0.%d" % i for i in range(1024)) + "/"
+    case("sizes of 8,192", sizes(8192), "value,2,aggregate,9/" + whole * 8 + "value,4,bytes,0/done,0,0,0/")
+    case("sizes of 8,193", sizes(8193), "refused,10,27/")  # 9 lines, two for each of 8 reads, a place
+
+    # Constants: one of a weight that is the node's alone is B2 of document 02's readings.
+    def weights(n):
+        return HEAD + "t,unit/t,array,2,4000/n,3,null/n,3,null/" + "n,2,null/" * (n - 8003) + "n,2,aggregate" + numbers(n - 8001) + "/"
+    case("weights of 8,192", weights(8192), "value,2,aggregate,191/" + "value,3,bytes,2,#0,#0/" * 2 + "value,2,bytes,2,#0,#0/" * 189 + "done,0,0,0/")
+    case("weights of 8,193", weights(8193), "refused,10,198/")  # 7 lines, 190 nodes
+    case("one type's weight of 4,096 counts in the sum", HEAD + "t,unit/t,array,2,4095/n,2,null/n,3,aggregate,0/",
+         "value,3,aggregate,1/value,2,bytes,2,#0,#0/done,0,0,0/")
+    case("8 before 10 in a line", HEAD + "t,opaque,8/" + "n,2,null/" * 1025, "refused,8,1029/")
+    case("10 in a line before 8", HEAD + "t,opaque,9/" + "n,2,null/" * 1025, "refused,10,915/")
+
+
+def taken(name, count):
+    """Of the large ones every fifth."""
+    return not name.startswith("large") or count % 5 == 0
+
+
+def answers(folders):
+    """The pairs of the samples' folders, by name."""
+    tickets, listings = {}, {}
+    for folder in folders:
+        for name in sorted(os.listdir(folder)):
+            into = {".in": tickets, ".out": listings}.get(os.path.splitext(name)[1])
+            if into is not None:
+                with open(os.path.join(folder, name), "rb") as f:
+                    into[os.path.splitext(name)[0]] = f.read()
+    return [(tickets[name], listings[name]) for count, name in enumerate(sorted(tickets)) if taken(name, count)]
 
 
 def main():
-    if len(sys.argv) not in (2, 3):
-        sys.exit(__doc__)
+    args = sys.argv[1:]
     here = os.path.dirname(os.path.dirname(os.path.abspath(__file__)))
-    folder = sys.argv[2] if len(sys.argv) == 3 else os.path.join(here, "crates", "listing_tests")
-    for group in (printed_case, edges, compared_only, temptations, differences, text_lengths):
+    folder = os.path.join(here, "crates", "listing_tests")
+    if args[:1] == ["--out"]:
+        folder, args = args[1], args[2:]
+    if not args:
+        sys.exit(__doc__)
+    for group in (printed_case, edges, compared_only, temptations, differences, text_lengths, limits):
         group()
     pairs = [(t.replace("/", "\n").encode(), a.replace("/", "\n").encode()) for _, t, a in CASES]
-    pairs += answers(sys.argv[1])
+    pairs += answers(args)
     os.makedirs(folder, exist_ok=True)
     with open(os.path.join(folder, "stdin"), "wb") as f:
         for ticket, answer in pairs:
             f.write((b"%d,%d" % (len(ticket), len(answer))).ljust(16, b"\n") + ticket + answer)
     with open(os.path.join(folder, "stdout"), "w") as f:
         f.write("%d tickets, 0 failed\n" % len(pairs))
-    print("%d tickets from document 01, %d samples" % (len(CASES), len(pairs) - len(CASES)))
+    print("%d tickets from the documents, %d samples" % (len(CASES), len(pairs) - len(CASES)))
 
 
 if __name__ == "__main__":

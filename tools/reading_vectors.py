@@ -6,8 +6,8 @@
 OUT is the crate's folder (default: crates/reading_tests beside this script's folder). Written are stdin, the tickets with their answers, and
 stdout, what the program must print. A ticket is a line `LENGTH,NUMBER,LINE` and LENGTH bytes; NUMBER 0 says that reading accepts it.
 
-The answers come from the reader below, written from document 01's sections Ticket and Refusal table alone; it shares nothing with the
-definitions that the code is proved against.
+The answers come from the reader below, written from document 01's sections Ticket and Refusal table and document 02's limits alone; it shares
+nothing with the definitions that the code is proved against.
 """
 import os
 import random
@@ -23,7 +23,8 @@ NODES = {
 }
 PLACED = ["STORAGE", "0-65535", "TYPE", "0-1"]
 ORDER = {"f": 0, "t": 1, "s": 2, "v": 3, "g": 4, "p": 5, "n": 5}
-MOST = {"t": 256, "s": 256, "v": 64, "g": 64, "p": 256, "n": 256}
+MOST = {"t": 256, "s": 256, "v": 64, "g": 64, "p": 1024, "n": 1024}
+MOST_SUM = 8192  # of sizes, and of weights
 
 
 def fields_of(parts):
@@ -134,7 +135,7 @@ def read(ticket):
             return 9, at
         if k == "n":
             sizes, weights = sizes + types[values[0]][1], weights + types[values[0]][2]
-            if sizes > 2048 or weights > 2048:
+            if sizes > MOST_SUM or weights > MOST_SUM:
                 return 10, at
         table[k].append((at, size, weight, depth, (word, tuple(values)) if k == "t" else None))
         stage = ORDER[k]
@@ -155,6 +156,65 @@ HEAD = ["f,0,0", "t,bool", "t,pointer"]
 
 def text(lines):
     return "".join(x + "\n" for x in lines).encode("latin-1")
+
+
+def bools(n):
+    return ["n,0,bool,1"] * n
+
+
+def places(n):
+    """Places, two and two of them read by a node."""
+    pairs = [x for i in range(n // 2) for x in ("p,variable,0", "p,field,%d,0" % (2 * i), "n,0,read,%d" % (2 * i + 1))]
+    return pairs + ["p,variable,0", "n,0,read,%d" % (n - 1)] * (n % 2)
+
+
+def joined(kind, nodes):
+    """The aggregate of nodes."""
+    return ",".join(["n,%d,aggregate" % kind] + [str(i) for i in nodes])
+
+
+def too_many_lines(add):
+    """A line too many, beside another refusal of that line or a later one: 2 comes before 8, and 8 before all others."""
+    full = HEAD + bools(1024)
+    add("8 before 3", full + ["n,0,bool,2"])
+    add("8 before 4", full + ["n,9,unary,0,1024"])
+    add("8 before 7", HEAD + ["n,0,bool,1", "n,0,unary,0,0"] + bools(1022) + ["n,0,unary,0,0"])
+    add("2 before 8", full + ["n,0,bool"])
+    add("order before 8", full + ["s,0,0,0,0"])
+    add("3 on the line before 8", full[:-1] + ["n,0,bool,2", "n,0,bool,1"])
+    add("8 on the line before 2", full + ["n,0,bool,1", "x"])
+    add("a place behind 1,024 nodes", full + ["p,variable,0", joined(0, range(1024))])
+    add("a node behind 1,024 places", HEAD + ["p,variable,0"] * 1024 + ["n,0,bool,1"])
+    add("8 before 4, places", HEAD + ["p,variable,0"] * 1024 + ["p,field,1024,0"])
+    add("1,024 places and 1,024 nodes", HEAD + places(1024) + bools(511) + [joined(0, range(1023))])
+    add("8 before 10", HEAD + ["t,opaque,8"] + ["n,2,null"] * 1024 + ["n,2,null"])
+    add("10 on a line before 8", HEAD + ["t,opaque,9"] + ["n,2,null"] * 1025)
+
+
+def sums(add):
+    """The sums over nodes at their limit: a type's own size is at most 1,024, its weight at most 4,096."""
+    for n in (2047, 2048, 2049, 8191, 8192, 8193):
+        whole = n // 1024
+        kinds = [2] * whole + [3]
+        types = ["t,opaque,1024", "t,opaque,%d" % (n - 1024 * whole), "t,unit"]
+        nodes = ["n,%d,null" % k for k in kinds]
+        add("size sum %d" % n, HEAD + types + nodes + [joined(4, range(len(nodes)))])
+        add("size sum %d by its last line" % n, HEAD + types + ["n,4,null"] + nodes[:-1] + [joined(3, range(len(nodes)))])
+    for n in (2047, 2048, 2049, 4097, 8191, 8192, 8193):
+        # nodes of a great weight, and one for what is left but for the root's 1
+        whole = (n - 2) // 4001
+        types = ["t,unit", "t,array,2,4000", "t,array,2,%d" % (n - 2 - 4001 * whole)]
+        nodes = ["n,3,null"] * whole + ["n,4,null"]
+        add("weight sum %d" % n, HEAD + types + nodes + [joined(2, range(len(nodes)))])
+        add("weight sum %d by its last line" % n, HEAD + types + ["n,2,null"] + nodes[:-1] + [joined(4, range(len(nodes)))])
+    full = HEAD + ["t,opaque,1024", "t,unit"] + ["n,2,null"] * 8
+    add("9 before 10", HEAD + ["t,opaque,1024", "n,0,bool,1"] + ["n,0,convert,11,%d" % i for i in range(62)] + ["n,2,null"] * 7
+        + ["n,0,convert,11,62", "n,2,convert,11,70"])
+    add("7 before 10", full + ["n,2,binary,0,1,1"])
+    add("10 on the line before 2", full + ["n,0,bool,1", "x"])
+    add("nothing more to the size", full + ["n,3,null"] * 3 + [joined(3, range(11))])
+    add("the least more", full + ["n,0,bool,1"])
+    add("weight sum of one node", HEAD + ["t,unit", "t,array,2,4095", "n,3,null"])
 
 
 def cases():
@@ -239,10 +299,11 @@ def cases():
         types = ["t,bits,%d" % w for w in range(1, 65)] + ["t,opaque,%d" % x for x in range(0, 300)]
         add("types %d" % n, HEAD + types[:n - 2] + ["n,1,null"])
         add("storages %d" % n, HEAD + ["s,0,0,0,0"] * n + ["n,1,null"])
-        nodes = ["n,0,bool,1"] * (n - 1) + [",".join(["n,0,aggregate"] + [str(i) for i in range(n - 1)])]
-        add("nodes %d" % n, HEAD + nodes)
-        fields = ["p,variable,0"] * (n - 1) + ["n,0,bool,1"]
-        add("places %d" % n, HEAD + ["t,unit"] + ["p,variable,0"] * n + ["n,2,null"])
+    for n in (257, 1024, 1025):
+        add("nodes %d" % n, HEAD + bools(n - 1) + [joined(0, range(n - 1))])
+        add("places %d" % n, HEAD + places(n) + [joined(0, range((n + 1) // 2))])
+    too_many_lines(add)
+    sums(add)
     for n in (64, 65):
         add("variables %d" % n, HEAD + ["s,1,0,0,0"] + ["v,0,0,0,0"] * n + ["n,1,null"])
         add("statics %d" % n, HEAD + ["s,1,0,0,0"] + ["g,0,0,0,0"] * n + ["n,1,null"])
@@ -251,18 +312,9 @@ def cases():
         add("depth of places %d" % n, HEAD + ["p,variable,0"] + ["p,field,%d,0" % i for i in range(n - 2)] + ["n,0,read,%d" % (n - 2)])
     for n in (15, 16, 17):
         add("depth of types %d" % n, HEAD + ["t,struct,%d" % i for i in [0] + list(range(2, n))] + ["n,1,null"])
-    for n in (2047, 2048, 2049):
-        half = ["t,opaque,1024", "t,opaque,%d" % (n - 1024 - 2)]
-        add("size sum %d" % n, HEAD + half + ["n,2,null", "n,3,null", "n,1,binary,0,0,1"])
-        add("weight sum %d" % n, HEAD + ["t,unit", "t,array,2,%d" % (n - 2), "n,3,null", "n,1,unary,0,0"])
-    add("weight sum of one node", HEAD + ["t,unit", "t,array,2,2048", "n,3,null"])
-    pad = "n,0,bool,1\n"
-    for n in (65535, 65536, 65537):
-        body = text(HEAD + ["t,opaque,17", "n,1,null"])
-        zeros = b"t,struct" + b",0" * 600 + b"\n"
-        rows = text(HEAD) + zeros
+    for n in (65536, 65537):
+        rows = text(HEAD) + b"t,struct" + b",0" * 600 + b"\n"
         add("bytes %d" % n, rows + b"s" * (n - len(rows)))
-        add("line feeds %d" % n, b"\n" * n)
     rng = random.Random(20261115)
     for _ in range(120):
         t = bytearray(text(base))

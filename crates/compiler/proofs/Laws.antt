@@ -11,6 +11,7 @@ use lib.Dec.{leb, ltb}
 use borrow.Author.Tests.{lt-leb, ltb-true, ltb-false}
 use lib.ListN.{length, take, drop, getD, set, length-set, length-drop, List·getD-eq-default}
 use lib.Seq.{getD-set-same, getD-set-other, take-all}
+use Rattle.spec.specs.Limits.{text-limit, weight-sum-limit}
 use Rattle.spec.specs.Ticket.{NodeLine, Tables}
 use Rattle.spec.specs.Readable.{Readable, line-sum}
 use Rattle.spec.specs.Monad.{refused}
@@ -33,7 +34,7 @@ use Rattle.answers.specs.declared.Answer.{Answer}
 use Rattle.compiler.specs.declared.Tried.{Tried}
 use Rattle.answers.specs.Answers.{Answers}
 use Rattle.compiler.specs.Tries.{tried-of, case-tried, Tries}
-use Rattle.compiler.specs.Lent.{FewWords, FewRead, FewRows, Short}
+use Rattle.compiler.specs.Lent.{FewWords, FewRead, FewRows, Short, lists-length, marks-length, stack-length}
 use Rattle.sections.specs.Sections.{all-weights, Ready}
 
 -- ---------------------------------------------------------------- tables
@@ -105,7 +106,7 @@ module _ (rows nodes lists : List ℕ) (n : Counts) where
   sum-all {sum} {k} s h = omega (arith, s .is, left-none (weight-of (tables-of rows nodes lists n)) (node-line nodes lists n) (n .nodes) k h)
 
   -- it stays small
-  pub sum-small : {sum k w : ℕ} → Readable (tables-of rows nodes lists n) → Summed sum k → k < n .nodes → w ≡ weight-of (tables-of rows nodes lists n) ((node-line nodes lists n k) .type) → sum + w ≤ 2048
+  pub sum-small : {sum k w : ℕ} → Readable (tables-of rows nodes lists n) → Summed sum k → k < n .nodes → w ≡ weight-of (tables-of rows nodes lists n) ((node-line nodes lists n k) .type) → sum + w ≤ weight-sum-limit
   sum-small {sum} {k} {w} r s h e = let z = sum-more s h e in omega (arith, z .is, r .weight-sum)
 
   pub weight-is : (k : ℕ) {ty w : ℕ} → ty ≡ node-type-at nodes lists n k → w ≡ weight-at rows n ty → w ≡ weight-of (tables-of rows nodes lists n) ((node-line nodes lists n k) .type)
@@ -139,9 +140,9 @@ answer-read T text room e a = rw (← e) a
 pub text-read : (T : Tables) (text : List ℕ) → reading.accepted T ≡ read-ticket text → Readable T
 text-read T text e = readable text T (sym e)
 
-pub text-too-long : (text : List ℕ) → 65536 < length text → reading.refused 1 0 ≡ read-ticket text
+pub text-too-long : (text : List ℕ) → text-limit < length text → reading.refused 1 0 ≡ read-ticket text
 unfolding read-ticket
-text-too-long text h = by (leb (length text) 65536) (lt-leb (length text) 65536 h)
+text-too-long text h = by (leb (length text) text-limit) (lt-leb (length text) text-limit h)
   where
     by : (b : Bool) → b ≡ false → reading.refused 1 0 ≡ elim b as (λ _. reading.Read) [ true ↦ reading.read-lines (split line-feed text) reading.start | false ↦ reading.refused 1 0 ]
     by true e = cc
@@ -219,7 +220,7 @@ pub unread-few : {text : List ℕ} {marks stack n k : ℕ} → reading.refused n
 unread-few e w = let i = w .is in let z : _≡_ {A = ℕ} 0 1 = cc in omega arith
 
 -- words that are enough for every ticket are never too few
-pub never-short : (text : List ℕ) (rows lists marks stack : ℕ) → rows-length ≤ rows → 32768 ≤ lists → 256 ≤ marks → 16384 ≤ stack → FewRows rows ⊎ Short text lists marks stack → ⊥
+pub never-short : (text : List ℕ) (rows lists marks stack : ℕ) → rows-length ≤ rows → lists-length ≤ lists → marks-length ≤ marks → stack-length ≤ stack → FewRows rows ⊎ Short text lists marks stack → ⊥
 never-short text rows lists marks stack h i j k s =
     ⊎-elim (λ w. omega (arith, w))
     (⊎-elim (λ w. omega (arith, w .0, w .1))

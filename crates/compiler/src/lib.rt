@@ -2,6 +2,8 @@
 //
 // The work is done in slices that the caller lends; only the words for keys and a mark for each storage are cleared.
 use answers::Answer;
+use line_checks::keys::key_lines;
+use line_checks::limits;
 use tables::Counts;
 use ticket::ReadAnswer;
 use ticket::reading::read_ticket;
@@ -64,7 +66,8 @@ fn clear(words: &mut [u64])
 // The words for keys, behind the rows: what stands in them makes reading slow, and not wrong.
 fn clear_keys(rows: &mut [u64]) {
     let at = rows.len() / 40 * 36;
-    clear(&mut rows[at..]);
+    let end = at + key_lines(rows.len()) * 4;
+    clear(&mut rows[at..end]);
 }
 
 fn as_tried(answer: Answer) -> Tried
@@ -162,8 +165,8 @@ fn lower_with(
 // The listing of the ticket's lowering, in the buffer, and its length; or the refusal's number and line, and nothing is written; or that
 // words lent are too few, and nothing is written. All the work is done in what is lent, and whatever stood there is of no account: a word of
 // `lists` for two bytes of text; 8 of `stack` for each record of the nodes' values, and one of `narrowed` for each storage of a ticket that
-// reading accepts; where `rows` has 10,280, these are too few exactly then. With fewer they can be too few too: there are 40 for each line of
-// the kind that has the most, and 40 more. 16,384 words of stack and 256 of narrowed are enough for every ticket.
+// reading accepts; where `rows` has 41,000, these are too few exactly then. With fewer they can be too few too: there are 40 for each line of
+// the kind that has the most, and 40 more. 65,536 words of stack and 256 of narrowed are enough for every ticket.
 // `code` and `store` may have any length: where they hold the listing's halves, the ticket is lowered once, else three times.
 pub fn lower_in(
     ticket: &[u8],
@@ -177,7 +180,7 @@ pub fn lower_in(
 ) -> Tried
     ensures { λ r. ⌜ Tries (answer (now (ticket .entry)) (length (now (buffer .entry)))) (Short (now (ticket .entry)) (length (now (lists .entry))) (length (now (narrowed .entry))) (length (now (stack .entry)))) (FewRows (length (now (rows .entry)))) (now (buffer .entry)) (now (buffer .exit)) r ⌝ }
 {
-    if 65536 < ticket.len() {
+    if limits::TEXT_LIMIT < ticket.len() {
         return Tried::Refused(1, 0);
     }
     if lists.len() < ticket.len() - ticket.len() / 2 {
@@ -207,10 +210,10 @@ fn lower_small(ticket: &[u8], buffer: &mut [u8]) -> Tried
 fn lower_large(ticket: &[u8], buffer: &mut [u8]) -> Answer
     ensures { λ r. ⌜ Answers (answer (now (ticket .entry)) (length (now (buffer .entry)))) (now (buffer .entry)) (now (buffer .exit)) r ⌝ }
 {
-    let mut rows = [0u64; 10280];
-    let mut lists = [0u64; 32768];
-    let mut stack = [0u64; 16384];
-    let mut narrowed = [0u64; 256];
+    let mut rows = [0u64; limits::ROWS_LENGTH];
+    let mut lists = [0u64; limits::LISTS_LENGTH];
+    let mut stack = [0u64; limits::STACK_LENGTH];
+    let mut narrowed = [0u64; limits::MARKS_LENGTH];
     let mut code = [0u8; 65536];
     let mut store = [0u8; 32768];
     match lower_in(ticket, buffer, &mut rows, &mut lists, &mut stack, &mut narrowed, &mut code, &mut store) {

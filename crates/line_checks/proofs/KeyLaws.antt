@@ -6,16 +6,17 @@ use mathlib.Core.Logic.{⊎-elim}
 use Prim.Native.Nat.{ℕ, zero, suc, _+_, _-_, _*_, _/_, _%_, _≤_, _<_}
 use native.Mathlib.Omega.{arith}
 use native.Mathlib.Nat.{add-zero, mod-lt, eq-or-lt-of-le, le-of-suc-le-suc}
-use lib.Dec.{eqb, lit<}
+use lib.Dec.{eqb, leb, lit<}
 use lib.ListN.{length, getD, set, length-set}
 use lib.Seq.{getD-set-same, getD-set-other}
-use borrow.Author.Tests.{eqb-true, eqb-false, eq-eqb, ne-eqb, not-true}
+use borrow.Author.Tests.{leb-false, le-leb, lt-leb, eqb-true, eqb-false, eq-eqb, ne-eqb, not-true}
+use Rattle.spec.specs.Limits.{type-lines}
 use Rattle.spec.specs.Text.{same}
 use Rattle.spec.specs.Read.{alike, type-number}
 use Rattle.fields.proofs.Lines.{both-true}
 use Rattle.tables.specs.Tables.{tab, pick, row-of, run, type-word-by}
 use Rattle.line_checks.specs.Rows.{word-at, Row, rowAt, section, typeRow, numbers, RowPut}
-use Rattle.line_checks.specs.Keys.{key-from, key-of, key-row, key-place, slot-of, stands, with-key, has-key, noted, row-key, Keyed}
+use Rattle.line_checks.specs.Keys.{key-from, key-lines, key-of, key-row, key-place, slot-of, stands, with-key, has-key, noted, row-key, Keyed}
 use Rattle.line_checks.specs.Steps.{Alike, alikeTo}
 use Rattle.line_checks.proofs.RowLaws.{Stored, stored}
 use Rattle.line_checks.proofs.MeasureLaws.{run-here, run-done}
@@ -40,6 +41,32 @@ module _ (o : ℕ) (ls : List ℕ) (h a i n : ℕ) (q : o ≡ key-from h (run ls
 
 -- ---------------------------------------------------------------- where a key's word stands
 
+-- words for keys: for no more lines than there are rows, and for one if there is a row
+pub keys-in : (n : ℕ) → key-lines n ≤ n / 40
+unfolding key-lines
+keys-in n = by (leb (n / 40) type-lines) refl
+  where
+    by : (t : Bool) → leb (n / 40) type-lines ≡ t → pick t (n / 40) type-lines ≤ n / 40
+    by true e = omega arith
+    by false e = let g = leb-false (n / 40) type-lines e in omega arith
+
+pub keys-some : (n : ℕ) → 40 ≤ n → 0 < key-lines n
+unfolding key-lines
+keys-some n l = by (leb (n / 40) type-lines)
+  where
+    by : (t : Bool) → 0 < pick t (n / 40) type-lines
+    by true = omega arith
+    by false = lit< tt
+
+-- as the code works it out
+pub keys-all : (n : ℕ) → n / 40 ≤ type-lines → n / 40 ≡ key-lines n
+unfolding key-lines
+keys-all n l = rw (le-leb (n / 40) type-lines l)
+
+pub keys-most : (n : ℕ) → type-lines < n / 40 → type-lines ≡ key-lines n
+unfolding key-lines
+keys-most n l = rw (lt-leb (n / 40) type-lines l)
+
 module _ (n h : ℕ) where
   -- behind the rows of lines
   pub slot-behind : n / 40 * 6 ≤ key-row n h
@@ -51,19 +78,19 @@ module _ (n h : ℕ) where
   unfolding key-place
   place-low = omega arith
 
-  -- one of three for each 40 words
-  pub slot-share : 40 ≤ n → h % (n / 40 * 3) < n / 40 * 3
-  slot-share l = let p : 0 < n / 40 * 3 = omega arith in mod-lt h p
+  -- one of three for each line
+  pub slot-share : (k : ℕ) → k ≡ key-lines n → 40 ≤ n → h % (k * 3) < k * 3
+  slot-share k e l = let g = keys-some n l in let p : 0 < k * 3 = omega (arith, e, g) in mod-lt h p
 
   -- within the words
   slot-in : 40 ≤ n → slot-of n h < n
   unfolding key-row key-place
-  slot-in l = let b = slot-share l in omega arith
+  slot-in l = let b = slot-share (key-lines n) refl l in let k = keys-in n in omega arith
 
   -- as the code works it out
-  pub slot-is : (n / 40 * 6 + h % (n / 40 * 3) / 5) * 6 + h % (n / 40 * 3) % 5 ≡ slot-of n h
+  pub slot-is : (k : ℕ) → k ≡ key-lines n → (n / 40 * 6 + h % (k * 3) / 5) * 6 + h % (k * 3) % 5 ≡ slot-of n h
   unfolding key-row key-place
-  slot-is = refl
+  slot-is k e = rw e
 
 -- ---------------------------------------------------------------- what a key's word says
 

@@ -1,12 +1,13 @@
 -- Keys of types: a number from a type's word and its numbers, the same for types that are alike. Of each 40 words 36 are rows, and the
--- 4 behind all rows say which keys the types have, so that a type of a new key need not be compared with the others.
+-- 4 behind all rows, as far as types may be, say which keys the types have, so that a type of a new key need not be compared with the others.
 use Prim.Native.Nat.{ℕ, _+_, _*_, _/_, _%_, _<_}
 use mathlib.Core.Path.{_≡_}
 use mathlib.Core.Bool.{Bool, true, _||_}
 use mathlib.Core.List.{List, _∷_, []}
-use lib.Dec.{eqb}
+use lib.Dec.{eqb, leb}
 use lib.ListN.{length, getD, set}
 use Rattle.tables.specs.Tables.{pick, row-of, type-word-by}
+use Rattle.spec.specs.Limits.{type-lines}
 use Rattle.spec.specs.Read.{type-number}
 use Rattle.line_checks.specs.Rows.{Row, rowAt, numbers}
 
@@ -18,13 +19,17 @@ key-from h (x ∷ xs) = key-from ((h * 31 + x % 4294967296) % 4294967296) xs
 unfoldable pub key-of : ℕ → List ℕ → ℕ
 key-of w xs = key-from (w % 4294967296) xs
 
+-- for how many lines n words have words for keys: as many as they have rows for, but no more than types may be
+unfoldable pub key-lines : ℕ → ℕ
+key-lines n = pick (leb (n / 40) type-lines) (n / 40) type-lines
+
 -- the row of n words in which a key's word stands, behind the rows of lines
 unfoldable pub key-row : ℕ → ℕ → ℕ
-key-row n h = n / 40 * 6 + h % (n / 40 * 3) / 5
+key-row n h = n / 40 * 6 + h % (key-lines n * 3) / 5
 
 -- and its place in this row: not the last, where marks are
 unfoldable pub key-place : ℕ → ℕ → ℕ
-key-place n h = h % (n / 40 * 3) % 5
+key-place n h = h % (key-lines n * 3) % 5
 
 abbrev pub slot-of : ℕ → ℕ → ℕ
 slot-of n h = key-row n h * 6 + key-place n h

@@ -92,9 +92,13 @@ pub record Few (c : Counts) : Type 0 where
   pub places : c .places ≤ place-lines
   pub nodes : c .nodes ≤ node-lines
 
--- the words that hold a row more than the most lines of each kind: 36 for one row of each and 4 for keys, 257 times
+-- no kind may have more lines than nodes may be
+abbrev pub most-lines : ℕ
+most-lines = node-lines
+
+-- the words that hold a row more than the most lines of each kind: 36 for one row of each and 4 for keys
 abbrev pub rows-length : ℕ
-rows-length = 10280
+rows-length = (most-lines + 1) * 40
 
 -- n words have a row more for each kind, and the words for keys behind them
 pub record Roomy (n : ℕ) (c : Counts) : Type 0 where

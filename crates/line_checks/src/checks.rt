@@ -10,14 +10,15 @@ ghost use Rattle.line_checks.specs.Rows.{Few, Roomy};
 ghost use Rattle.line_checks.specs.Steps.{verdictOf, fewOf, earlierIn, earlierArg, depthIn, Marking, MarkedOne, MarkedRun, MarkedDeep, early-tests};
 ghost use Rattle.spec.specs.Ticket.{arg as argOf};
 ghost use lib.Dec.{eqb, leb};
-use line_forms::Class;
-use line_forms::Form;
-use line_forms::LineKind;
 use crate::Marked;
 use crate::Seen;
 use crate::Verdict;
-use line_forms::class_at;
+use crate::limits;
 use crate::rows::mark;
+use line_forms::Class;
+use line_forms::Form;
+use line_forms::LineKind;
+use line_forms::class_at;
 use tables::Counts;
 use tables::arg;
 use tables::cell;
@@ -55,12 +56,12 @@ fn few(kind: LineKind, counts: Counts) -> bool
 {
     match kind {
         LineKind::Functions => true,
-        LineKind::Types => counts.types < 256,
-        LineKind::Storages => counts.storages < 256,
-        LineKind::Variables => counts.variables < 64,
-        LineKind::Statics => counts.statics < 64,
-        LineKind::Places => counts.places < 256,
-        LineKind::Nodes => counts.nodes < 256,
+        LineKind::Types => counts.types < limits::TYPE_LINES,
+        LineKind::Storages => counts.storages < limits::STORAGE_LINES,
+        LineKind::Variables => counts.variables < limits::VARIABLE_LINES,
+        LineKind::Statics => counts.statics < limits::STATIC_LINES,
+        LineKind::Places => counts.places < limits::PLACE_LINES,
+        LineKind::Nodes => counts.nodes < limits::NODE_LINES,
     }
 }
 

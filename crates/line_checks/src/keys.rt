@@ -1,9 +1,10 @@
 // Keys of types: whether a type like a new one may be there, without comparing it with each.
 ghost use mathlib.Core.Path.{_≡_};
-ghost use Prim.Native.Nat.{_+_, _≤_, _<_};
+ghost use Prim.Native.Nat.{_+_, _/_, _≤_, _<_};
 ghost use lib.ListN.{length};
 ghost use Rattle.tables.specs.Tables.{run};
-ghost use Rattle.line_checks.specs.Keys.{key-of, slot-of, stands as standsOf, has-key, noted};
+ghost use Rattle.line_checks.specs.Keys.{key-lines as keysFor, key-of, slot-of, stands as standsOf, has-key, noted};
+use crate::limits;
 
 // A number from a type's word and its numbers.
 fn key(lists: &[u64], word: u64, start: usize, n: usize) -> u64
@@ -20,14 +21,25 @@ fn key(lists: &[u64], word: u64, start: usize, n: usize) -> u64
     h
 }
 
+// For how many lines there are words for keys: four for each, behind all rows.
+pub fn key_lines(len: usize) -> usize
+    ensures { λ r. ⌜ (r ≡ keysFor len) × (r ≤ len / 40) ⌝ }
+{
+    let m = len / 40;
+    if m <= limits::KEY_LINES {
+        return m;
+    }
+    limits::KEY_LINES
+}
+
 // Where a key's word stands: five in each row behind those of lines, as marks are in the sixth.
 fn slot(len: usize, key: u64) -> usize
     requires { ⌜ 40 ≤ len ⌝ }
     ensures { λ r. ⌜ (r ≡ slot-of len key) × (r < len) ⌝ }
 {
-    let m = len / 40;
-    let s = key as usize % (m * 3);
-    (m * 6 + s / 5) * 6 + s % 5
+    let n = key_lines(len);
+    let s = key as usize % (n * 3);
+    (len / 40 * 6 + s / 5) * 6 + s % 5
 }
 
 // A key's word is 0 for no key, 1 for several, and 2 more than the key for one.

@@ -1,6 +1,7 @@
 // The tests of a line, and the words that they read and mark.
 pub mod checks;
 pub mod keys;
+pub mod limits;
 pub mod measures;
 pub mod rows;
 

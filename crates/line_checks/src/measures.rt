@@ -13,6 +13,7 @@ ghost use Rattle.line_checks.specs.Steps.{cappedOf, capped, measuredOf, 
 use crate::Capped;
 use crate::Measured;
 use crate::keys::known;
+use crate::limits;
 use tables::Counts;
 use tables::arg;
 use tables::cell;
@@ -157,9 +158,12 @@ fn cap_sum(
     Capped::Within(total)
 }
 
+// The bits that the most bytes of a type hold.
+const WIDTH_LIMIT: u64 = limits::TYPE_SIZE_LIMIT * 8;
+
 // The whole bytes that hold so many bits, by a shift: a host may divide slowly.
 fn whole_bytes(width: u64) -> u64
-    requires { ⌜ width ≤ 8192 ⌝ }
+    requires { ⌜ width ≤ type-size-limit * 8 ⌝ }
     ensures { λ r. ⌜ r ≡ (width + 7) / 8 ⌝ }
 {
     (width + 7) >> 3
@@ -168,10 +172,10 @@ fn whole_bytes(width: u64) -> u64
 fn bits_size(width: u64) -> Capped
     ensures { λ r. ⌜ cappedOf r ≡ capped type-size-limit ((width + 7) / 8) ⌝ }
 {
-    if 8192 < width {
+    if WIDTH_LIMIT < width {
         return Capped::Over;
     }
-    cap(1024, whole_bytes(width))
+    cap(limits::TYPE_SIZE_LIMIT, whole_bytes(width))
 }
 
 fn array_size(rows: &[u64], lists: &[u64], types: u64, start: usize, n: usize) -> Capped
@@ -181,7 +185,7 @@ fn array_size(rows: &[u64], lists: &[u64], types: u64, start: usize, n: usize) -
     let t = arg(lists, start as u64, n as u64, 0);
     let len = arg(lists, start as u64, n as u64, 1);
     let size = cell(rows, 0, types, t, 3, 0);
-    cap_product(1024, size, len)
+    cap_product(limits::TYPE_SIZE_LIMIT, size, len)
 }
 
 fn array_weight(rows: &[u64], lists: &[u64], types: u64, start: usize, n: usize) -> Capped
@@ -191,16 +195,25 @@ fn array_weight(rows: &[u64], lists: &[u64], types: u64, start: usize, n: usize)
     let t = arg(lists, start as u64, n as u64, 0);
     let len = arg(lists, start as u64, n as u64, 1);
     let weight = cell(rows, 0, types, t, 4, 1);
-    let c = cap_product(4096, len, weight);
-    cap_more(4096, c)
+    let c = cap_product(limits::TYPE_WEIGHT_LIMIT, len, weight);
+    cap_more(limits::TYPE_WEIGHT_LIMIT, c)
 }
 
 fn sum_weight(rows: &[u64], lists: &[u64], types: u64, start: usize, n: usize) -> Capped
     requires { ⌜ (start + n ≤ length (now lists)) × (types ≤ 65536) ⌝ }
     ensures { λ r. ⌜ cappedOf r ≡ capped type-weight-limit (1 + sum (λ t. cell (now (rows .entry)) 0 types t 4 1) (run (now (lists .entry)) start n)) ⌝ }
 {
-    let c = cap_sum(rows, lists, types, start, n, 4, 1, 4096);
-    cap_more(4096, c)
+    let c = cap_sum(
+        rows,
+        lists,
+        types,
+        start,
+        n,
+        4,
+        1,
+        limits::TYPE_WEIGHT_LIMIT,
+    );
+    cap_more(limits::TYPE_WEIGHT_LIMIT, c)
 }
 
 // `type_size`, within the limit.
@@ -211,12 +224,18 @@ fn size(rows: &[u64], lists: &[u64], types: u64, w: u64, start: usize, n: usize)
     match w {
         1 => Capped::Within(1),
         2 => bits_size(arg(lists, start as u64, n as u64, 0)),
-        3 => cap(1024, arg(lists, start as u64, n as u64, 0) / 8),
+        3 => cap(
+            limits::TYPE_SIZE_LIMIT,
+            arg(lists, start as u64, n as u64, 0) / 8,
+        ),
         4 => Capped::Within(2),
         5 => array_size(rows, lists, types, start, n),
-        6 => cap_sum(rows, lists, types, start, n, 3, 0, 1024),
-        7 => cap_sum(rows, lists, types, start, n, 3, 0, 1024),
-        8 => cap(1024, arg(lists, start as u64, n as u64, 0)),
+        6 => cap_sum(rows, lists, types, start, n, 3, 0, limits::TYPE_SIZE_LIMIT),
+        7 => cap_sum(rows, lists, types, start, n, 3, 0, limits::TYPE_SIZE_LIMIT),
+        8 => cap(
+            limits::TYPE_SIZE_LIMIT,
+            arg(lists, start as u64, n as u64, 0),
+        ),
         _ => Capped::Within(0),
     }
 }

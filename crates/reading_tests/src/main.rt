@@ -3,12 +3,13 @@
 ghost use Rattle.spec.specs.Read.{read-ticket as readTicket};
 ghost use Rattle.reading_tests.specs.Asked.{Holds};
 use cases::Tally;
+use line_checks::limits;
 use ticket::ReadAnswer;
 
 fn holds(ticket: &[u8], number: u64, line: u64) -> bool
     ensures { λ r. ⌜ Holds (readTicket (now (ticket .entry))) number line r ⌝ }
 {
-    let mut rows = [0u64; 10280];
+    let mut rows = [0u64; limits::ROWS_LENGTH];
     let mut lists = [0u64; 32769];
     if 65538 < ticket.len() {
         return false;

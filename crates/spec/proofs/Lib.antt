@@ -2,6 +2,7 @@ pub mod Cases
 pub mod Stars
 pub mod Readings
 pub mod Readings02
+pub mod Raised
 pub mod Bools
 pub mod Lengths
 pub mod Answers

@@ -1,11 +1,12 @@
--- Document 02's decided readings (E7): tickets, each with a line of its answer, computed.
+-- Document 02's decided readings (E7 and E5): tickets, each with a line of its answer, computed.
 use Prim.Native.Nat.{ℕ}
 use Prim.Native.String.{String}
 use mathlib.Core.Bool.{Bool, true, false, _||_}
 use mathlib.Core.List.{List, [], _∷_, _++_, map}
 use mathlib.Core.Path.{_≡_, refl}
 use Rattle.spec.specs.Text.{text, bytes, digits, same, split, line-feed}
-use Rattle.spec.specs.Answer.{Answer, refused, accepted, answer, computing}
+use Rattle.spec.specs.Print as print
+use Rattle.spec.specs.Answer.{Answer, refused, accepted, answer, plain-lowering, plain-reading, plain-answer, computing}
 
 -- what the program `lower` prints
 abbrev pub printed : Answer → List ℕ
@@ -26,6 +27,10 @@ shows t l = record { ticket = t; room = 65536; line = l }
 
 abbrev pub in-answer : Shown → Bool
 in-answer s = has-line (bytes (s .line)) (split line-feed (printed (answer (text (s .ticket)) (s .room))))
+
+-- read without the nodes
+abbrev pub in-plain-answer : Shown → Bool
+in-plain-answer s = has-line (bytes (s .line)) (split line-feed (printed (plain-answer (text (s .ticket)) (s .room))))
 
 abbrev pub all-true : List Bool → Bool
 all-true [] = true
@@ -50,3 +55,16 @@ of-nodes =
 pub of-nodes-hold : all-true (map in-answer of-nodes) ≡ true
 unfolding of-nodes has-line computing
 of-nodes-hold = refl
+
+-- ---------------------------------------------------------------- E5
+
+unfoldable pub of-limits : List Shown
+of-limits =
+    -- B2. Both sums, sizes and weights, go to 8,192; one type's weight stays at 4,096
+    shows ("f,0,0" ∷ "t,bool" ∷ "t,pointer" ∷ "t,unit" ∷ "t,array,2,4095" ∷ "n,2,null" ∷ "n,3,aggregate,0" ∷ [])
+    "value,3,aggregate,1" ∷
+    []
+
+pub of-limits-hold : all-true (map in-plain-answer of-limits) ≡ true
+unfolding of-limits has-line computing print.plain-instruction-line print.print-plain-listing plain-lowering plain-reading plain-answer
+of-limits-hold = refl

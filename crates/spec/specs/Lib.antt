@@ -19,6 +19,7 @@ pub mod Conversions
 pub mod Select
 pub mod Lower
 pub mod Answer
+pub mod Before
 pub mod Machine
 pub mod Typed
 pub mod Eval

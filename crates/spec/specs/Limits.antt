@@ -1,4 +1,4 @@
--- Document 01's limits, each named once.
+-- Document 01's limits as document 02 raises them, each named once.
 use Prim.Native.Nat.{ℕ}
 
 -- 1: bytes of a text
@@ -19,10 +19,10 @@ abbrev pub static-lines : ℕ
 static-lines = 64
 
 abbrev pub place-lines : ℕ
-place-lines = 256
+place-lines = 1024
 
 abbrev pub node-lines : ℕ
-node-lines = 256
+node-lines = 1024
 
 -- 3: FUNCTION, NEXT, lengths, offsets, REGIONS, and numbers of 32 and of 64 bits
 abbrev pub greatest-16 : ℕ
@@ -53,10 +53,10 @@ type-depth-limit = 16
 
 -- 10: the sums over nodes of their types' sizes and weights
 abbrev pub size-sum-limit : ℕ
-size-sum-limit = 2048
+size-sum-limit = 8192
 
 abbrev pub weight-sum-limit : ℕ
-weight-sum-limit = 2048
+weight-sum-limit = 8192
 
 -- 26: bytes of an integer constant
 abbrev pub constant-limit : ℕ

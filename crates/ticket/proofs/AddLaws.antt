@@ -11,6 +11,7 @@ use borrow.Author.Tests.{ltb-true}
 use Rattle.tables.specs.Tables.{row-of, run, storages-from, variables-from, statics-from, places-from, type-word-by}
 use Rattle.spec.specs.Ticket.{arg}
 use Rattle.spec.specs.Read.{Reading, type-number}
+use Rattle.spec.specs.Limits.{type-lines, storage-lines, variable-lines, static-lines, place-lines, node-lines}
 use Rattle.line_checks.specs.Rows.{word-at, Row, rowAt, typeRow, storageRow, placedRow, placeRow, nodeRow, marked, numbers, tablesOf, usedOf, readingOf, Inside, Held, RowPut, Roomy, nodes-from}
 use Rattle.line_checks.specs.Keys.{key-of, key-row, noted, has-key, row-key, Keyed}
 use Rattle.line_checks.specs.Steps.{fewOf}
@@ -108,8 +109,8 @@ with-type c n e =
     }
 
 module _ (u t ls : List ℕ) (c : Counts) (w n : ℕ) (e : Extent) (h : Held u c) (m : fewOf Types c ≡ true) (p : RowPut u t (c .types * 6) (record { word = w; start = c .used; count = n; third = e .size; fourth = e .weight; fifth = e .depth })) where
-  type-less : c .types < 256
-  type-less = ltb-true (c .types) 256 m
+  type-less : c .types < type-lines
+  type-less = ltb-true (c .types) type-lines m
 
   type-put : RowPut u t (row-of 0 (c .types)) (record { word = w; start = c .used; count = n; third = e .size; fourth = e .weight; fifth = e .depth })
   type-put = rw zero-add p
@@ -232,8 +233,8 @@ module _ (u v t ls : List ℕ) (c : Counts) (w n y : ℕ) (e : Extent) (h : Held
       }
 
 module _ (u t ls : List ℕ) (c : Counts) (w n : ℕ) (e : Extent) (h : Held u c) (m : fewOf Storages c ≡ true) (room : Roomy (length u) c) (p : RowPut u t (1 + c .storages * 6) (record { word = w; start = c .used; count = n; third = 0; fourth = 0; fifth = 0 })) where
-  storage-less : c .storages < 256
-  storage-less = ltb-true (c .storages) 256 m
+  storage-less : c .storages < storage-lines
+  storage-less = ltb-true (c .storages) storage-lines m
 
   storage-put : RowPut u t (row-of storages-from (c .storages)) (record { word = w; start = c .used; count = n; third = 0; fourth = 0; fifth = 0 })
   storage-put = p
@@ -284,8 +285,8 @@ module _ (u t ls : List ℕ) (c : Counts) (w n : ℕ) (e : Extent) (h : Held u c
       }
 
 module _ (u t ls : List ℕ) (c : Counts) (w n : ℕ) (e : Extent) (h : Held u c) (m : fewOf Variables c ≡ true) (room : Roomy (length u) c) (p : RowPut u t (2 + c .variables * 6) (record { word = w; start = c .used; count = n; third = 0; fourth = 0; fifth = 0 })) where
-  variable-less : c .variables < 64
-  variable-less = ltb-true (c .variables) 64 m
+  variable-less : c .variables < variable-lines
+  variable-less = ltb-true (c .variables) variable-lines m
 
   variable-put : RowPut u t (row-of variables-from (c .variables)) (record { word = w; start = c .used; count = n; third = 0; fourth = 0; fifth = 0 })
   variable-put = p
@@ -336,8 +337,8 @@ module _ (u t ls : List ℕ) (c : Counts) (w n : ℕ) (e : Extent) (h : Held u c
       }
 
 module _ (u t ls : List ℕ) (c : Counts) (w n : ℕ) (e : Extent) (h : Held u c) (m : fewOf Statics c ≡ true) (room : Roomy (length u) c) (p : RowPut u t (3 + c .statics * 6) (record { word = w; start = c .used; count = n; third = 0; fourth = 0; fifth = 0 })) where
-  static-less : c .statics < 64
-  static-less = ltb-true (c .statics) 64 m
+  static-less : c .statics < static-lines
+  static-less = ltb-true (c .statics) static-lines m
 
   static-put : RowPut u t (row-of statics-from (c .statics)) (record { word = w; start = c .used; count = n; third = 0; fourth = 0; fifth = 0 })
   static-put = p
@@ -388,8 +389,8 @@ module _ (u t ls : List ℕ) (c : Counts) (w n : ℕ) (e : Extent) (h : Held u c
       }
 
 module _ (u t ls : List ℕ) (c : Counts) (w n : ℕ) (e : Extent) (h : Held u c) (m : fewOf Places c ≡ true) (room : Roomy (length u) c) (p : RowPut u t (4 + c .places * 6) (record { word = w; start = c .used; count = n; third = c .lines + 1; fourth = e .depth; fifth = 0 })) where
-  place-less : c .places < 256
-  place-less = ltb-true (c .places) 256 m
+  place-less : c .places < place-lines
+  place-less = ltb-true (c .places) place-lines m
 
   place-put : RowPut u t (row-of places-from (c .places)) (record { word = w; start = c .used; count = n; third = c .lines + 1; fourth = e .depth; fifth = 0 })
   place-put = p
@@ -440,8 +441,8 @@ module _ (u t ls : List ℕ) (c : Counts) (w n : ℕ) (e : Extent) (h : Held u c
       }
 
 module _ (u t ls : List ℕ) (c : Counts) (w n : ℕ) (e : Extent) (h : Held u c) (m : fewOf Nodes c ≡ true) (room : Roomy (length u) c) (p : RowPut u t (5 + c .nodes * 6) (record { word = w; start = c .used; count = n; third = c .lines + 1; fourth = e .depth; fifth = 0 })) where
-  node-less : c .nodes < 256
-  node-less = ltb-true (c .nodes) 256 m
+  node-less : c .nodes < node-lines
+  node-less = ltb-true (c .nodes) node-lines m
 
   node-put : RowPut u t (row-of nodes-from (c .nodes)) (record { word = w; start = c .used; count = n; third = c .lines + 1; fourth = e .depth; fifth = 0 })
   node-put = p

@@ -54,7 +54,7 @@ module _ (s w : ℕ) where
       by true q h = let z : none ≡ some s = h ∙ rw q in cc
       by false q h = rw q
 
-  pub weights-beyond : (c : Capped) → cappedOf c ≡ capped size-sum-limit w → c ≡ Over → none ≡ summed s w
+  pub weights-beyond : (c : Capped) → cappedOf c ≡ capped weight-sum-limit w → c ≡ Over → none ≡ summed s w
   unfolding summed capped
   weights-beyond c e g = by (leb w weight-sum-limit) refl (leb s size-sum-limit) (ap cappedOf (sym g) ∙ e)
     where
@@ -64,7 +64,7 @@ module _ (s w : ℕ) where
       by false q true h = rw q
       by false q false h = refl
 
-  pub summed-in : (c d : Capped) (x y : ℕ) → cappedOf c ≡ capped size-sum-limit s → c ≡ Within x → cappedOf d ≡ capped size-sum-limit w → d ≡ Within y
+  pub summed-in : (c d : Capped) (x y : ℕ) → cappedOf c ≡ capped size-sum-limit s → c ≡ Within x → cappedOf d ≡ capped weight-sum-limit w → d ≡ Within y
       → some (record { size = x; weight = y }) ≡ summed s w
   unfolding summed
   summed-in c d x y e g e′ g′ =

@@ -17,7 +17,7 @@ use Rattle.fields.proofs.Marks.{split-from, split-some}
 use Rattle.spec.specs.Limits.{text-limit}
 use Rattle.spec.specs.Forms.{lineOf}
 use Rattle.spec.specs.Read.{Reading, stop, go, step, Read, refused, accepted, left-places, left-nodes, least, left-over, at-end, at-tail, read-lines, start, read-ticket}
-use Rattle.line_checks.specs.Rows.{rowAt, word-at, section, placeRow, nodeRow, marked, tablesOf, usedOf, readingOf, Few, Held, RoomIs, nodes-from}
+use Rattle.line_checks.specs.Rows.{rowAt, word-at, section, placeRow, nodeRow, marked, tablesOf, usedOf, readingOf, Few, Held, RoomIs, nodes-from, most-lines}
 use Rattle.line_checks.specs.Keys.{Keyed}
 use Rattle.ticket.specs.Judged.{StepAt, LineGoes}
 use Rattle.ticket.specs.Answers.{leastOf, joined, with-left, least-rows, but-last, left-of, Answered, advanceOf, Advance, behindOf, Begun}
@@ -239,7 +239,7 @@ module _ (n : ℕ) (c : Counts) where
       }
 
   -- a kind has as many lines as there are rows for it
-  pub no-room : (m : ℕ) → (Few c → m ≤ 256) → n / 40 ≤ m → RoomIs n c false
+  pub no-room : (m : ℕ) → (Few c → m ≤ most-lines) → n / 40 ≤ m → RoomIs n c false
   no-room m l h = record { enough = λ q. absurd (no-truth q); short = λ q few. let g = l few in omega arith }
 
 -- ---------------------------------------------------------------- the loop

@@ -7,11 +7,11 @@ ghost use Rattle.line_checks.specs.Rows.{Held, Roomy};
 ghost use Rattle.line_checks.specs.Steps.{fewOf};
 ghost use Rattle.ticket.specs.Grown.{Added};
 use crate::Extent;
-use line_forms::Form;
-use line_forms::LineKind;
 use line_checks::keys::note;
 use line_checks::measures::type_number;
 use line_checks::rows::put_row;
+use line_forms::Form;
+use line_forms::LineKind;
 use tables::Counts;
 use tables::arg;
 

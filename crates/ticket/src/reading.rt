@@ -13,6 +13,7 @@ use crate::ReadAnswer;
 use crate::Reader;
 use crate::Stepped;
 use crate::steps::step;
+use line_checks::limits;
 use tables::Counts;
 use tables::cell;
 
@@ -210,7 +211,7 @@ pub fn read_ticket(text: &[u8], rows: &mut [u64], lists: &mut [u64]) -> ReadAnsw
     requires { ⌜ length (now text) ≤ length (now lists) * 2 ⌝ }
     ensures { λ r. ⌜ Answered (readTicket (now (text .entry))) (now (rows .exit)) (now (lists .exit)) r ⌝ }
 {
-    if 65536 < text.len() {
+    if limits::TEXT_LIMIT < text.len() {
         return ReadAnswer::Refused(1, 0);
     }
     read_lines(text, rows, lists)

@@ -3,7 +3,6 @@ ghost use mathlib.Core.Path.{_≡_};
 ghost use mathlib.Core.Bool.{true};
 ghost use Prim.Native.Nat.{_+_, _*_, _≤_, _<_};
 ghost use lib.ListN.{length};
-ghost use Rattle.spec.specs.Limits.{size-sum-limit};
 ghost use Rattle.spec.specs.Forms.{lineOf};
 ghost use Rattle.spec.specs.Read.{step as stepFrom};
 ghost use Rattle.line_forms.specs.Classes.{argsOf};
@@ -11,23 +10,24 @@ ghost use Rattle.line_checks.specs.Rows.{Few, Held, Roomy, readingOf};
 ghost use Rattle.line_checks.specs.Keys.{Keyed};
 ghost use Rattle.line_checks.specs.Steps.{fewOf, measuredOf, capped, cappedOf, deepestIn};
 ghost use Rattle.ticket.specs.Judged.{typesIn, startIn, sizedIn, allowedIn, ownIn, summedOf, sumsIn, Judged, last-step, late-step, StepAt};
-use line_checks::Capped;
 use crate::Extent;
-use line_forms::Form;
-use line_forms::Formed;
-use line_forms::LineKind;
-use line_checks::Marked;
-use line_checks::Measured;
 use crate::Stepped;
 use crate::Summed;
-use line_checks::Verdict;
 use crate::adding::add;
+use line_checks::Capped;
+use line_checks::Marked;
+use line_checks::Measured;
+use line_checks::Verdict;
 use line_checks::checks::early;
 use line_checks::checks::mark_all;
-use line_forms::line_form;
+use line_checks::limits;
 use line_checks::measures::alike;
 use line_checks::measures::measure;
 use line_checks::measures::type_number;
+use line_forms::Form;
+use line_forms::Formed;
+use line_forms::LineKind;
+use line_forms::line_form;
 use tables::Counts;
 use tables::arg;
 use tables::cell;
@@ -98,13 +98,13 @@ fn allowed(kind: LineKind) -> u64
     ensures { λ r. ⌜ r ≡ allowedIn kind ⌝ }
 {
     match kind {
-        LineKind::Functions => 64,
-        LineKind::Types => 16,
-        LineKind::Storages => 64,
-        LineKind::Variables => 64,
-        LineKind::Statics => 64,
-        LineKind::Places => 64,
-        LineKind::Nodes => 64,
+        LineKind::Functions => limits::DEPTH_LIMIT,
+        LineKind::Types => limits::TYPE_DEPTH_LIMIT,
+        LineKind::Storages => limits::DEPTH_LIMIT,
+        LineKind::Variables => limits::DEPTH_LIMIT,
+        LineKind::Statics => limits::DEPTH_LIMIT,
+        LineKind::Places => limits::DEPTH_LIMIT,
+        LineKind::Nodes => limits::DEPTH_LIMIT,
     }
 }
 
@@ -135,13 +135,13 @@ fn own(form: Form, rows: &[u64], lists: &[u64], counts: Counts, j: u64, other: u
     }
 }
 
-fn total(sum: u64, x: u64) -> Capped
-    ensures { λ r. ⌜ cappedOf r ≡ capped size-sum-limit (sum + x) ⌝ }
+fn total(limit: u64, sum: u64, x: u64) -> Capped
+    ensures { λ r. ⌜ cappedOf r ≡ capped limit (sum + x) ⌝ }
 {
-    if 2048 < sum {
+    if limit < sum {
         return Capped::Over;
     }
-    if 2048 - sum < x {
+    if limit - sum < x {
         return Capped::Over;
     }
     Capped::Within(sum + x)
@@ -152,11 +152,11 @@ fn sums(form: Form, rows: &[u64], lists: &[u64], counts: Counts) -> Summed
     ensures { λ r. ⌜ summedOf r ≡ sumsIn (now (rows .entry)) (now (lists .entry)) counts (form .kind) (form .count) ⌝ }
 {
     let a = own(form, rows, lists, counts, 3, 0);
-    let Capped::Within(sizes) = total(counts.sizes, a) else {
+    let Capped::Within(sizes) = total(limits::SIZE_SUM_LIMIT, counts.sizes, a) else {
         return Summed::Beyond;
     };
     let b = own(form, rows, lists, counts, 4, 1);
-    let Capped::Within(weights) = total(counts.weights, b) else {
+    let Capped::Within(weights) = total(limits::WEIGHT_SUM_LIMIT, counts.weights, b) else {
         return Summed::Beyond;
     };
     Summed::Sums(sizes, weights)

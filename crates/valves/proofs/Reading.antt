@@ -10,7 +10,7 @@ use borrow.Author.Tests.{le-leb}
 use lib.ListN.{length}
 use Rattle.spec.specs.Text.{bytes, text, split, fields, line, line-feed, digits, numeral, horner, all-digits, good-start}
 use Rattle.spec.specs.Text as texts
-use Rattle.spec.specs.Limits.{greatest-16, all-regions}
+use Rattle.spec.specs.Limits.{greatest-16, all-regions, size-sum-limit}
 use Rattle.spec.specs.Ticket.{tBool, tPointer, tBits, pVariable, nRead, nInt, nBinary}
 use Rattle.spec.specs.Forms.{Arg, Line, Field, between, up-to, any, type, storage, place, node, f-line, t-line, s-line, v-line, p-line, n-line, find, args-of, rest-args, form-of, type-form, node-form, form-of-fields, lineOf, values}
 use Rattle.spec.specs.Read.{Reading, test, first-failed, refusal-of, add, start, step, read-lines, at-end, read-ticket, accepted, all, in-order, rank, few-enough, in-range, fields-fit, earlier, types-right, small-enough, once, depth-of, depth-allowed, sums-fit}
@@ -285,17 +285,17 @@ module _ (N m : ℕ) (low : 1 ≤ N) (high : N ≤ 64) (small : m < 2 ^ 64) wher
 
   passes-8 : refusal-of (R7 N) read-form ≡ none
   unfolding computing
-  passes-8 = passes (R7 N) read-form refl refl refl refl refl refl refl refl (and-true (le-leb (0 + bytes-for N) 2048 (omega arith)) refl)
+  passes-8 = passes (R7 N) read-form refl refl refl refl refl refl refl refl (and-true (le-leb (0 + bytes-for N) size-sum-limit (omega arith)) refl)
 
   passes-9 : refusal-of (R8 N) (constant-form-of m) ≡ none
   unfolding computing
   passes-9 =
       let r = and-true (le-leb 0 m (omega arith)) (le-leb m 18446744073709551615 (omega arith)) in
-      passes (R8 N) (constant-form-of m) refl refl (and-true (and-true r refl) refl) refl refl refl refl refl (and-true (le-leb (0 + bytes-for N + bytes-for N) 2048 (omega arith)) refl)
+      passes (R8 N) (constant-form-of m) refl refl (and-true (and-true r refl) refl) refl refl refl refl refl (and-true (le-leb (0 + bytes-for N + bytes-for N) size-sum-limit (omega arith)) refl)
 
   passes-10 : refusal-of (R9 N m) or-form ≡ none
   unfolding computing
-  passes-10 = passes (R9 N m) or-form refl refl refl refl refl refl refl refl (and-true (le-leb (0 + bytes-for N + bytes-for N + bytes-for N) 2048 (omega arith)) refl)
+  passes-10 = passes (R9 N m) or-form refl refl refl refl refl refl refl refl (and-true (le-leb (0 + bytes-for N + bytes-for N + bytes-for N) size-sum-limit (omega arith)) refl)
 
   lines-taken : Taken (lines N (bytes-for N) m) start (add (R9 N m) or-form)
   lines-taken =

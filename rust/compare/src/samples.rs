@@ -27,6 +27,12 @@ pub fn folder() -> Option<PathBuf> {
         .find(|folder| folder.is_dir())
 }
 
+/// Whether a sample's answer may be another one now: it was made with document
+/// 01's limits for 8 and 10, which document 02 raises.
+pub fn raised(printed: &[u8]) -> bool {
+    printed.starts_with(b"refused,8,") || printed.starts_with(b"refused,10,")
+}
+
 /// All samples by name.
 pub fn all(options: &Options) -> Result<Vec<Sample>, String> {
     let folder = options
@@ -55,7 +61,7 @@ pub fn compare_original(options: &Options) -> Result<usize, String> {
     let mut differences = 0;
     for sample in &all {
         let printed = original::answer(&sample.ticket, 65_536).printed();
-        if printed != sample.printed {
+        if printed != sample.printed && !raised(&sample.printed) {
             differences += 1;
             println!("{} differs from the original", sample.name);
         }

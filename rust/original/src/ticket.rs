@@ -1,5 +1,5 @@
 //! The ticket's reader, written from document 01: its forms, its refusals 1
-//! to 10 and their order.
+//! to 10 and their order. The limits are document 02's.
 //!
 //! A line is first split into numbers, each with the class of number that its
 //! place in the form asks for. Every test is then one pass over them.
@@ -8,6 +8,16 @@ use crate::Refusal;
 
 pub const TEXT_BYTES: usize = 65_536;
 const FEW: u64 = 65_535;
+/// Lines of a kind, at most.
+const TYPE_LINES: usize = 256;
+const STORAGE_LINES: usize = 256;
+const VARIABLE_LINES: usize = 64;
+const STATIC_LINES: usize = 64;
+const PLACE_LINES: usize = 1_024;
+const NODE_LINES: usize = 1_024;
+/// The sizes and the weights of all nodes' types together, at most.
+const SIZE_SUM: usize = 8_192;
+const WEIGHT_SUM: usize = 8_192;
 
 #[derive(Clone, Debug, PartialEq, Eq)]
 pub enum Type {
@@ -289,12 +299,12 @@ impl Reader {
         self.order = order;
 
         let (before, limit) = match form.kind {
-            b't' => (self.ticket.types.len(), 256),
-            b's' => (self.ticket.storages.len(), 256),
-            b'v' => (self.ticket.variables.len(), 64),
-            b'g' => (self.ticket.statics.len(), 64),
-            b'p' => (self.ticket.places.len(), 256),
-            b'n' => (self.ticket.nodes.len(), 256),
+            b't' => (self.ticket.types.len(), TYPE_LINES),
+            b's' => (self.ticket.storages.len(), STORAGE_LINES),
+            b'v' => (self.ticket.variables.len(), VARIABLE_LINES),
+            b'g' => (self.ticket.statics.len(), STATIC_LINES),
+            b'p' => (self.ticket.places.len(), PLACE_LINES),
+            b'n' => (self.ticket.nodes.len(), NODE_LINES),
             _ => (0, 1),
         };
         if before >= limit {
@@ -438,7 +448,7 @@ impl Reader {
         let ty = form.index(0);
         self.sum_of_sizes += self.ticket.sizes[ty];
         self.sum_of_weights += self.weights[ty];
-        if self.sum_of_sizes > 2_048 || self.sum_of_weights > 2_048 {
+        if self.sum_of_sizes > SIZE_SUM || self.sum_of_weights > WEIGHT_SUM {
             return Err(10);
         }
         self.nodes.push(used);

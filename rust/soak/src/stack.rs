@@ -9,7 +9,7 @@ use tickets::{Kind, Rng};
 use wesknuft_lower::{lower, Lowerer, Refusal, STACK};
 
 /// Room for any listing.
-const ROOM: usize = 1 << 18;
+const ROOM: usize = 1 << 20;
 
 /// The listing's length and hash, or the refusal.
 type Told = Result<(usize, u64), Refusal>;

@@ -1,7 +1,7 @@
 //! The tickets that are timed, in groups.
 
 use original::Answer;
-use tickets::{padded, Kind, Rng};
+use tickets::{many_bools, many_bytes, many_nodes, many_places, many_units, padded, Kind, Rng};
 
 /// Room for any listing here.
 pub const ROOM: usize = 1 << 20;
@@ -115,10 +115,10 @@ pub struct Growth {
     pub ticket: fn(usize) -> Vec<u8>,
 }
 
-pub const GROWTHS: [Growth; 4] = [
+pub const GROWTHS: [Growth; 9] = [
     Growth {
         what: "terms of a sum",
-        sizes: &[1, 2, 4, 8, 16, 32, 64, 128],
+        sizes: &[1, 2, 4, 8, 16, 32, 64, 128, 256, 512],
         ticket: sum,
     },
     Growth {
@@ -130,6 +130,31 @@ pub const GROWTHS: [Growth; 4] = [
         what: "types",
         sizes: &[4, 16, 64, 256],
         ticket: types,
+    },
+    Growth {
+        what: "nodes",
+        sizes: &[4, 16, 64, 256, 1_024],
+        ticket: many_nodes,
+    },
+    Growth {
+        what: "places",
+        sizes: &[4, 16, 64, 256, 1_024],
+        ticket: many_places,
+    },
+    Growth {
+        what: "sizes",
+        sizes: &[1_024, 2_048, 4_096, 8_192],
+        ticket: many_bytes,
+    },
+    Growth {
+        what: "weights",
+        sizes: &[128, 512, 2_048, 8_192],
+        ticket: many_units,
+    },
+    Growth {
+        what: "arrays of 1,022 bools",
+        sizes: &[1, 2, 4, 8],
+        ticket: many_bools,
     },
     Growth {
         what: "bytes of text",

@@ -9,7 +9,9 @@ mod words;
 mod worst;
 
 pub use damage::damage;
-pub use limits::{accepted_at_limits, limits, padded};
+pub use limits::{
+    accepted_at_limits, limits, many_bools, many_bytes, many_nodes, many_places, many_units, padded,
+};
 pub use random::Rng;
 pub use words::Words;
 pub use worst::worst;

@@ -5,6 +5,15 @@ use std::sync::OnceLock;
 /// The lines before those of a ticket here.
 pub const HEAD: &str = "f,0,0\nt,bool\nt,pointer\n";
 
+/// Lines of types and of storages, at most, and of places and of nodes.
+pub const LINES: usize = 256;
+pub const NODES: usize = 1_024;
+/// The sizes and the weights of all nodes' types together, at most; a type's
+/// own bytes and weight.
+pub const SUM: usize = 8_192;
+pub const SIZE: usize = 1_024;
+pub const WEIGHT: usize = 4_096;
+
 /// A name that says which limit, and the ticket.
 pub type Named = (String, Vec<u8>);
 
@@ -17,6 +26,7 @@ pub fn limits() -> &'static [Named] {
         lengths(&mut all);
         counts(&mut all);
         sums(&mut all);
+        together(&mut all);
         types(&mut all);
         depths(&mut all);
         offsets(&mut all);
@@ -33,6 +43,8 @@ pub fn accepted_at_limits() -> Vec<Named> {
         ("65,536 bytes of text".into(), padded(65_536)),
         ("256 nodes".into(), many_nodes(256)),
         ("256 places".into(), many_places(256)),
+        ("1,024 nodes".into(), many_nodes(NODES)),
+        ("1,024 places".into(), many_places(NODES)),
         ("depth 64".into(), deep_nodes(64)),
         ("depth 64 in places".into(), deep_places(64)),
     ];
@@ -60,7 +72,11 @@ pub fn accepted_at_limits() -> Vec<Named> {
             "n,2,read,0",
         ]),
     ));
-    large.push(("256 nodes of 64 bits".into(), wide_sum(64)));
+    large.push(("255 nodes of 64 bits".into(), wide_sum(128, 64)));
+    large.push(("1,023 nodes of 64 bits".into(), wide_sum(512, 64)));
+    large.push(("sizes of 8,192".into(), many_bytes(SUM)));
+    large.push(("weights of 8,192".into(), many_units(SUM)));
+    large.push(("8 arrays of 1,022 bools".into(), many_bools(8)));
     large
 }
 
@@ -173,17 +189,18 @@ pub fn padded(length: usize) -> Vec<u8> {
 
 /// Numbers of lines.
 fn counts(all: &mut Vec<Named>) {
-    for count in [255, 256, 257, 258] {
+    for count in [LINES - 1, LINES, LINES + 1, LINES + 2] {
         let mut lines: Vec<String> = (2..count).map(|k| format!("t,opaque,{k}")).collect();
         lines.push("n,1,null".into());
         all.push((format!("{count} types"), text(&lines)));
 
         let mut lines = vec!["s,2,9,1,32".to_string(); count];
-        lines.push(format!("v,{},0,1,0", count.min(256) - 1));
+        lines.push(format!("v,{},0,1,0", count.min(LINES) - 1));
         lines.push("p,variable,0".into());
         lines.push("n,1,address,0".into());
         all.push((format!("{count} storages"), text(&lines)));
-
+    }
+    for count in [255, 256, 257, NODES - 1, NODES, NODES + 1, NODES + 2] {
         all.push((format!("{count} places"), many_places(count)));
         all.push((format!("{count} nodes"), many_nodes(count)));
     }
@@ -211,7 +228,7 @@ fn counts(all: &mut Vec<Named>) {
 }
 
 /// Two places for each read of Unit, so many in all.
-fn many_places(count: usize) -> Vec<u8> {
+pub fn many_places(count: usize) -> Vec<u8> {
     let mut lines = vec![
         "t,unit".to_string(),
         "t,struct,2".into(),
@@ -239,21 +256,21 @@ fn many_places(count: usize) -> Vec<u8> {
 }
 
 /// An aggregate of so many nodes, itself counted.
-fn many_nodes(count: usize) -> Vec<u8> {
+pub fn many_nodes(count: usize) -> Vec<u8> {
     let mut lines = vec!["n,1,null".to_string(); count - 1];
     lines.push((0..count - 1).fold("n,1,aggregate".into(), |line, k| format!("{line},{k}")));
     text(&lines)
 }
 
-/// A sum of 128 terms of a width, as a balanced tree.
-fn wide_sum(width: usize) -> Vec<u8> {
+/// A sum of terms of a width, as a balanced tree.
+fn wide_sum(terms: usize, width: usize) -> Vec<u8> {
     let mut lines = vec![
         format!("t,bits,{width}"),
         format!("s,2,{},1,36", width.div_ceil(8)),
         "v,0,0,2,0".into(),
     ];
     let mut row: Vec<usize> = Vec::new();
-    for place in 0..128 {
+    for place in 0..terms {
         lines.push("p,variable,0".into());
         lines.push(format!("n,2,read,{place}"));
         row.push(place);
@@ -272,33 +289,134 @@ fn wide_sum(width: usize) -> Vec<u8> {
     text(&lines)
 }
 
-/// Sums over nodes.
-fn sums(all: &mut Vec<Named>) {
-    for extra in [0, 1, 2] {
-        let mut lines = vec!["t,unit".to_string(), "t,opaque,1023".into()];
-        lines.push("n,3,null".into());
-        lines.push("n,3,null".into());
-        for _ in 0..extra + 1 {
-            lines.push("n,0,bool,1".into());
-        }
-        let root =
-            (0..extra + 3).fold("n,2,aggregate".to_string(), |line, k| format!("{line},{k}"));
-        lines.push(root);
-        all.push((format!("sizes of {}", 2_047 + extra), text(&lines)));
-
-        let mut lines = vec![
-            "t,unit".to_string(),
-            format!("t,struct{}", ",2".repeat(2_044)),
-        ];
-        lines.push("n,3,null".into());
-        for _ in 0..extra + 1 {
-            lines.push("n,2,null".into());
-        }
-        let root =
-            (0..extra + 2).fold("n,2,aggregate".to_string(), |line, k| format!("{line},{k}"));
-        lines.push(root);
-        all.push((format!("weights of {}", 2_047 + extra), text(&lines)));
+/// So many variables of one type read, the last lines being others, and a node
+/// of type Unit around all.
+fn reads(ty: &str, count: usize, others: &[&str]) -> Vec<u8> {
+    let mut lines = vec![
+        "t,unit".to_string(),
+        format!("t,{ty}"),
+        "s,2,1024,1,36".into(),
+        "v,0,0,3,0".into(),
+    ];
+    for place in 0..count {
+        lines.push("p,variable,0".into());
+        lines.push(format!("n,3,read,{place}"));
     }
+    lines.extend(others.iter().map(|line| line.to_string()));
+    lines.push(
+        (0..count + others.len()).fold("n,2,aggregate".into(), |line, k| format!("{line},{k}")),
+    );
+    text(&lines)
+}
+
+/// Reads of types that have so many bytes together, 1,024 in each.
+pub fn many_bytes(sum: usize) -> Vec<u8> {
+    reads(&format!("opaque,{SIZE}"), sum / SIZE, &[])
+}
+
+/// Two reads of arrays of Unit, with the node around them of that weight: 1 of
+/// its own, 1 for each array.
+pub fn many_units(sum: usize) -> Vec<u8> {
+    let length = (sum - 3) / 2;
+    let others = ["n,2,null"];
+    reads(&format!("array,2,{length}"), 2, &others[..(sum - 3) % 2])
+}
+
+/// Reads of arrays of 1,022 bools.
+pub fn many_bools(count: usize) -> Vec<u8> {
+    reads("array,0,1022", count, &[])
+}
+
+/// Sums over nodes: document 01's limit, and now.
+fn sums(all: &mut Vec<Named>) {
+    for sum in [2_048, SUM] {
+        for extra in [0, 1, 2] {
+            let wide = sum / SIZE;
+            let mut lines = vec!["t,unit".to_string(), "t,opaque,1023".into()];
+            lines.extend(vec!["n,3,null".to_string(); wide]);
+            lines.extend(vec!["n,0,bool,1".to_string(); wide - 1 + extra]);
+            let nodes = 2 * wide - 1 + extra;
+            let root =
+                (0..nodes).fold("n,2,aggregate".to_string(), |line, k| format!("{line},{k}"));
+            lines.push(root);
+            all.push((format!("sizes of {}", sum - 1 + extra), text(&lines)));
+
+            // Two structs of that weight, and the node around all.
+            let weight = sum / 2 - 2;
+            let mut lines = vec![
+                "t,unit".to_string(),
+                format!("t,struct{}", ",2".repeat(weight - 1)),
+            ];
+            lines.extend(vec!["n,3,null".to_string(); 2]);
+            lines.extend(vec!["n,2,null".to_string(); 2 + extra]);
+            let root =
+                (0..4 + extra).fold("n,2,aggregate".to_string(), |line, k| format!("{line},{k}"));
+            lines.push(root);
+            all.push((format!("weights of {}", sum - 1 + extra), text(&lines)));
+        }
+    }
+    for sum in [SUM - 1, SUM, SUM + 1] {
+        all.push((format!("weights of {sum}, read"), many_units(sum)));
+        all.push((format!("sizes of {sum}, read"), read_bytes(sum)));
+    }
+}
+
+/// Reads of so many bytes together.
+fn read_bytes(sum: usize) -> Vec<u8> {
+    let rest = sum % SIZE;
+    let mut lines = vec![
+        "t,unit".to_string(),
+        format!("t,opaque,{SIZE}"),
+        format!("t,opaque,{rest}"),
+        "s,2,1024,1,36".into(),
+        "v,0,0,3,0".into(),
+        "v,0,0,4,0".into(),
+    ];
+    let whole = sum / SIZE;
+    for place in 0..=whole {
+        let (variable, ty) = if place < whole { (0, 3) } else { (1, 4) };
+        lines.push(format!("p,variable,{variable}"));
+        lines.push(format!("n,{ty},read,{place}"));
+    }
+    lines.push((0..=whole).fold("n,2,aggregate".into(), |line, k| format!("{line},{k}")));
+    text(&lines)
+}
+
+/// Refusals 8 and 10 with others on the same line or beside it: the first
+/// faulty line decides, then the table's order.
+fn together(all: &mut Vec<Named>) {
+    let bools = vec!["n,0,bool,1"; NODES];
+    let places = vec!["p,variable,0"; NODES];
+    let full = vec!["n,2,null"; SUM / SIZE];
+    let mut with = |name: &str, types: &[&str], before: &[&str], lines: &[&str]| {
+        let ticket = [types, before, lines].concat();
+        all.push((format!("together: {name}"), text(&ticket)));
+    };
+    with("8 and 2", &[], &bools, &["n,0,bool"]);
+    with("8 and the order", &[], &bools, &["s,0,0,0,0"]);
+    with("8 and 3", &[], &bools, &["n,0,bool,2"]);
+    with("8 and 4", &[], &bools, &["n,9,unary,0,1024"]);
+    with("8 and 7", &[], &bools, &["n,0,binary,0,0,0"]);
+    with("3, then 8", &[], &bools[1..], &["n,0,bool,2", "n,0,bool,1"]);
+    with("8, then 2", &[], &bools, &["n,0,bool,1", "x"]);
+    with("8 of places and 4", &[], &places, &["p,field,1024,0"]);
+    with("a place behind all nodes", &[], &bools, &["p,variable,0"]);
+    with("a node behind all places", &[], &places, &["n,0,read,0"]);
+    let eight = vec!["n,2,null"; NODES];
+    with("8 and 10", &["t,opaque,8"], &eight, &["n,2,null"]);
+    with("10, then 8", &["t,opaque,9"], &eight, &["n,2,null"]);
+    let wide = ["t,opaque,1024"];
+    with("10 and 3", &wide, &full, &["n,2,bool,2"]);
+    with("10 and 4", &wide, &full, &["n,2,unary,0,9"]);
+    with("10 and 7", &wide, &full, &["n,2,binary,0,0,0"]);
+    with("10, then 2", &wide, &full, &["n,0,bool,1", "x"]);
+    let chain: Vec<String> = (0..63)
+        .map(|below| format!("n,0,unary,0,{below}"))
+        .collect();
+    let mut deep = vec!["n,0,bool,1"];
+    deep.extend(chain.iter().map(String::as_str));
+    deep.extend(&full[1..]);
+    with("10 and 9", &wide, &deep, &["n,2,unary,0,63"]);
 }
 
 /// Sizes, weights and ranges of types.

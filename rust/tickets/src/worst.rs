@@ -5,18 +5,13 @@ mod deep;
 mod long;
 mod wide;
 
-use crate::limits::{text, Named};
+use crate::limits::{text, Named, LINES, NODES, SIZE, SUM, WEIGHT};
 use std::sync::OnceLock;
 
 /// Nodes and places in each other, and types in each other, at most.
 const DEPTH: usize = 64;
 const TYPE_DEPTH: usize = 16;
-/// A type's bytes and its weight, at most; and those of all nodes together.
-const SIZE: usize = 1_024;
-const WEIGHT: usize = 4_096;
-const SUM: usize = 2_048;
-/// Lines of most kinds, and of variables and of statics.
-const LINES: usize = 256;
+/// Lines of variables and of statics, at most.
 const NAMES: usize = 64;
 
 const BOOL: usize = 0;

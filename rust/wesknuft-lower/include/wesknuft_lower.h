@@ -16,17 +16,17 @@ extern "C" {
 
 /* Lengths of the lent areas, in their own elements, that are enough for every
  * ticket. Those of code and store are only for speed. */
-#define WESKNUFT_ROWS_LEN 10280
+#define WESKNUFT_ROWS_LEN 41000
 #define WESKNUFT_LISTS_LEN 32768
-#define WESKNUFT_STACK_LEN 16384
+#define WESKNUFT_STACK_LEN 65536
 #define WESKNUFT_NARROWED_LEN 256
-#define WESKNUFT_CODE_LEN 65536
-#define WESKNUFT_STORE_LEN 32768
+#define WESKNUFT_CODE_LEN 524288
+#define WESKNUFT_STORE_LEN 262144
 
 /* The stack, in bytes, of a thread in which every ticket at all is answered,
  * the thread's own start included. It is measured (rust/README.md), not
  * proved. */
-#define WESKNUFT_THREAD_STACK 1048576
+#define WESKNUFT_THREAD_STACK 262144
 
 /* Room to work in. A caller has one for each thread that lowers (static or on
  * the heap, as it is large) and uses it again from ticket to ticket; what it

@@ -85,7 +85,7 @@ pub const ROOM_SIZE: usize = room::SIZE;
 /// assert!(thread.join().unwrap().is_ok());
 /// # Ok::<(), std::io::Error>(())
 /// ```
-pub const STACK: usize = 1_048_576;
+pub const STACK: usize = 262_144;
 
 /// The number of the refusal of a buffer that is too short.
 pub const BUFFER_TOO_SHORT: u64 = 28;
@@ -116,11 +116,11 @@ impl Refusal {
             6 => "the type has over 1,024 bytes or a weight over 4,096",
             7 => "a place or node is referred to twice, or this line is referred to by none",
             8 => {
-                "there are too many lines of this kind: over 256 types, storages, places or \
-                 nodes, or over 64 variables or statics"
+                "there are too many lines of this kind: over 1,024 places or nodes, over 256 \
+                 types or storages, or over 64 variables or statics"
             }
             9 => "the nesting is too deep: over 64 for places and nodes, over 16 for types",
-            10 => "the types of all nodes together have over 2,048 bytes or weight 2,048",
+            10 => "the types of all nodes together have over 8,192 bytes or weight 8,192",
             20 => "the ticket has no such variable or static",
             21 => {
                 "the place has no such field or element, its index is no constant, or it is a \

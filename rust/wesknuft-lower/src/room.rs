@@ -1,12 +1,12 @@
 //! The room that lowering works in.
 
 /// Lengths that are enough for every ticket, as in the C header.
-pub const ROWS_LEN: usize = 10_280;
+pub const ROWS_LEN: usize = 41_000;
 pub const LISTS_LEN: usize = 32_768;
-pub const STACK_LEN: usize = 16_384;
+pub const STACK_LEN: usize = 65_536;
 pub const NARROWED_LEN: usize = 256;
-pub const CODE_LEN: usize = 65_536;
-pub const STORE_LEN: usize = 32_768;
+pub const CODE_LEN: usize = 524_288;
+pub const STORE_LEN: usize = 262_144;
 
 const WORDS: usize = ROWS_LEN + LISTS_LEN + STACK_LEN + NARROWED_LEN;
 const BYTES: usize = CODE_LEN + STORE_LEN;
@@ -95,7 +95,7 @@ mod tests {
     fn a_room_of_rubbish() {
         let mut rng = Rng::new(5);
         let (mut room, mut fresh) = (Room::new(), Room::new());
-        let mut buffers = [vec![0; 1 << 18], vec![0; 1 << 18]];
+        let mut buffers = [vec![0; 1 << 20], vec![0; 1 << 20]];
         let [ours, expected] = &mut buffers;
         for (name, ticket) in tickets::worst().iter().step_by(3) {
             for fill in [u64::MAX, rng.draw()] {

@@ -3,6 +3,8 @@ use borrow.Author.Needs.{needs}
 use Prim.Native.Nat.{ℕ}
 use native.Mathlib.Omega.{arith}
 use lib.ListN.{length, replicate, length-replicate}
+use Rattle.line_checks.specs.Rows.{rows-length}
+use Rattle.compiler.specs.Lent.{lists-length, marks-length, stack-length}
 use Rattle.compiler.proofs.Laws.{tried-refused, tried-accepted, tried-short, never-short}
 use Rattle.compiler.proofs.lower_large.Statement.{statement}
 use Rattle.compiler.proofs.lower_large.Tie as tie
@@ -53,7 +55,7 @@ same-length-3 : tie.Need-same-length-3
 same-length-3 c = search needs
 
 returns-3 : tie.Need-returns-3
-returns-3 c = absurd (never-short (c .before .before .before .before .before .before .before .before .before .before .before .before .before .before .before .before .before .before .before .before .args .ticket .now) (length {A = ℕ} (replicate 10280 0)) (length {A = ℕ} (replicate 32768 0)) (length {A = ℕ} (replicate 256 0)) (length {A = ℕ} (replicate 16384 0)) (omega (arith, length-replicate {A = ℕ} 10280 0)) (omega (arith, length-replicate {A = ℕ} 32768 0)) (omega (arith, length-replicate {A = ℕ} 256 0)) (omega (arith, length-replicate {A = ℕ} 16384 0)) (tried-short (c .before .before .before .before .before .before .before .before .before .before .lower-in .ensures) (c .enum-told .given .1)))
+returns-3 c = absurd (never-short (c .before .before .before .before .before .before .before .before .before .before .before .before .before .before .before .before .before .before .before .before .args .ticket .now) (length {A = ℕ} (replicate rows-length 0)) (length {A = ℕ} (replicate lists-length 0)) (length {A = ℕ} (replicate marks-length 0)) (length {A = ℕ} (replicate stack-length 0)) (omega (arith, length-replicate {A = ℕ} rows-length 0)) (omega (arith, length-replicate {A = ℕ} lists-length 0)) (omega (arith, length-replicate {A = ℕ} marks-length 0)) (omega (arith, length-replicate {A = ℕ} stack-length 0)) (tried-short (c .before .before .before .before .before .before .before .before .before .before .lower-in .ensures) (c .enum-told .given .1)))
 
 pub lower-large-spec : {M : Type 1} → statement M
 lower-large-spec =

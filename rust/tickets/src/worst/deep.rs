@@ -1,6 +1,6 @@
 //! Nodes, types and places in each other.
 
-use super::{Draft, Named, BOOL, DEPTH, POINTER, SIZE, SUM, TYPE_DEPTH};
+use super::{Draft, Named, BOOL, DEPTH, POINTER, SIZE, TYPE_DEPTH, WEIGHT};
 
 /// The types of the nodes, in this order behind bool and pointer.
 const TYPES: [&str; 4] = ["bits,8", "bits,63", "unit", "array,2,100"];
@@ -178,7 +178,7 @@ impl Nest {
 
     /// Whether so many parts leave room for types of one part around them.
     fn has_room(&self, count: usize) -> bool {
-        count * self.size <= SIZE && count * self.weight + TYPE_DEPTH - self.depth <= SUM
+        count * self.size <= SIZE && count * self.weight + TYPE_DEPTH - self.depth <= WEIGHT
     }
 
     fn read(mut self) -> Vec<u8> {
@@ -206,7 +206,9 @@ pub fn types(all: &mut Vec<Named>) {
                 while nest.depth < TYPE_DEPTH - 1 {
                     nest.around(wrap, count);
                 }
-                let most = (1..=SUM).take_while(|&count| nest.has_room(count)).count();
+                let most = (1..=WEIGHT)
+                    .take_while(|&count| nest.has_room(count))
+                    .count();
                 nest.around(|ty| format!("array,{ty},{most}"), most);
                 let name = format!("array of {most} of 15 types of {inmost}, {name}");
                 all.push((name, nest.read()));

@@ -1,6 +1,6 @@
 //! Long listings, full tables and long texts.
 
-use super::{Draft, Named, DEPTH, LINES, NAMES, POINTER, SIZE, SUM};
+use super::{Draft, Named, DEPTH, LINES, NAMES, NODES, POINTER, SIZE, SUM, WEIGHT};
 use crate::limits::{padded, HEAD};
 
 /// The most bytes of a ticket.
@@ -20,13 +20,17 @@ fn numbered(draft: &Draft) -> Vec<u8> {
     text.replacen("f,0,0\n", "f,65535,60000\n", 1).into()
 }
 
-/// Reads that leave much: a listing of over 140,000 bytes among them.
+/// Reads that leave much: a listing of over 500,000 bytes among them.
 pub fn reads(all: &mut Vec<Named>) {
-    let most = (SUM - 2) / 2 - 1;
+    let times = SUM / SIZE;
+    // The node around them has a weight of 1, and so has each array.
+    let most = (SUM - 1) / times - 1;
     for (line, times) in [
         (format!("array,0,{SIZE}"), 1),
-        (format!("array,0,{most}"), 2),
-        (format!("opaque,{SIZE}"), 2),
+        (format!("array,0,{SIZE}"), times - 1),
+        (format!("array,0,{most}"), times),
+        (format!("opaque,{SIZE}"), times),
+        (format!("array,2,{}", WEIGHT - 2), SUM / WEIGHT),
     ] {
         let mut draft = Draft::new();
         let unit = draft.ty("unit");
@@ -38,6 +42,9 @@ pub fn reads(all: &mut Vec<Named>) {
     }
 }
 
+/// Chains of nodes as deep as they go, with the node around them.
+const CHAINS: usize = NODES / DEPTH;
+
 /// As many operations on eight bytes as there are nodes for.
 pub fn operations(all: &mut Vec<Named>) {
     for op in 0..5 {
@@ -45,27 +52,28 @@ pub fn operations(all: &mut Vec<Named>) {
         let unit = draft.ty("unit");
         let ty = draft.ty("bits,63");
         old_storages(&mut draft, ty);
-        let parts = [0; 4].map(|_| {
+        let parts = [0; CHAINS].map(|_| {
             let read = draft.read(0, ty);
             (3..DEPTH).fold(read, |node, _| {
                 draft.node(ty, &format!("unary,{op},{node}"))
             })
         });
         draft.aggregate(unit, &parts);
-        all.push((format!("244 times unary {op}"), numbered(&draft)));
+        let times = CHAINS * (DEPTH - 3);
+        all.push((format!("{times} times unary {op}"), numbered(&draft)));
     }
     for op in 0..19 {
         let mut draft = Draft::new();
         let ty = draft.ty("bits,63");
         old_storages(&mut draft, ty);
-        let mut row: Vec<usize> = (0..LINES / 2).map(|_| draft.read(0, ty)).collect();
+        let mut row: Vec<usize> = (0..NODES / 2).map(|_| draft.read(0, ty)).collect();
         while row.len() > 1 {
             let pairs = row.chunks(2);
             row = pairs
                 .map(|pair| draft.node(ty, &format!("binary,{op},{},{}", pair[0], pair[1])))
                 .collect();
         }
-        all.push((format!("127 times binary {op}"), numbered(&draft)));
+        all.push((format!("511 times binary {op}"), numbered(&draft)));
     }
 }
 
@@ -87,7 +95,7 @@ pub fn tables(all: &mut Vec<Named>) {
         }
     }
     let mut parts = Vec::new();
-    while draft.nodes < LINES - 1 {
+    while draft.nodes < NODES - 1 {
         let word = ["variable", "static"][draft.nodes % 2];
         let mut place = draft.place(&format!("{word},{}", draft.nodes / 2 % NAMES));
         if draft.nodes == 0 {

@@ -1,6 +1,6 @@
 //! Types of many parts, and selects over them.
 
-use super::{Draft, Named, BOOL, DEPTH, POINTER, SIZE, SUM, WEIGHT};
+use super::{Draft, Named, BOOL, DEPTH, NODES, POINTER, SIZE, SUM, WEIGHT};
 
 /// An element: its lines of type, the last of which it is, its size and weight.
 const ELEMENTS: [(&str, &[&str], usize, usize); 10] = [
@@ -86,7 +86,8 @@ pub fn parts(all: &mut Vec<Named>) {
     for (name, lines, size, weight) in ELEMENTS {
         for (using, nodes, build) in USES {
             // What else is there has a size and a weight of 16 at most.
-            let most = (SUM - 16).checked_div(nodes).unwrap_or(WEIGHT);
+            let together = (SUM - 16).checked_div(nodes).unwrap_or(WEIGHT);
+            let most = together.min(WEIGHT);
             let by_size = SIZE.min(most).checked_div(size).unwrap_or(WEIGHT);
             let count = by_size.min((most - 1) / weight);
             for word in ["array", "struct", "tuple"] {
@@ -133,9 +134,11 @@ pub fn selects(all: &mut Vec<Named>) {
 fn between_nulls() -> Vec<u8> {
     let mut draft = Draft::new();
     let unit = draft.ty("unit");
-    let ty = draft.ty(&format!("opaque,{}", SUM / 3));
+    let ty = draft.ty(&format!("opaque,{SIZE}"));
     let [yes, no] = [0; 2].map(|_| {
-        let nulls: Vec<usize> = (0..126).map(|_| draft.node(unit, "null")).collect();
+        let nulls: Vec<usize> = (0..NODES / 2 - 2)
+            .map(|_| draft.node(unit, "null"))
+            .collect();
         draft.aggregate(ty, &nulls)
     });
     let bit = draft.node(unit, "bool,1");
@@ -147,10 +150,10 @@ fn between_nulls() -> Vec<u8> {
 fn between_parts_and_bytes(swapped: bool) -> Vec<u8> {
     let mut draft = Draft::new();
     let byte = draft.ty("bits,8");
-    let ty = draft.ty("opaque,600");
+    let ty = draft.ty(&format!("opaque,{SIZE}"));
     draft.variables(&[ty]);
     let bytes = draft.read(0, ty);
-    let parts: Vec<usize> = (0..240).map(|_| draft.node(byte, "int,7")).collect();
+    let parts: Vec<usize> = (0..NODES - 4).map(|_| draft.node(byte, "int,7")).collect();
     let parts = draft.aggregate(ty, &parts);
     let bit = draft.node(BOOL, "bool,1");
     let (yes, no) = match swapped {
@@ -166,7 +169,7 @@ fn between_parts_and_bytes(swapped: bool) -> Vec<u8> {
 fn inmost_select(form: &str, others: usize) -> Vec<u8> {
     let around = DEPTH - 3;
     // Its own nodes and its condition have a weight of 4.
-    let count = (SUM - around * (1 + others) - 4) / 3;
+    let count = ((SUM - around * (1 + others) - 4) / 3).min(SIZE);
     let mut draft = Draft::new();
     let byte = draft.ty("bits,8");
     let unit = draft.ty("unit");

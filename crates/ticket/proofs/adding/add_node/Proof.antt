@@ -1,6 +1,7 @@
 use borrow.Author.Needs.{needs}
 use native.Mathlib.Omega.{arith}
 use borrow.Author.Tests.{ltb-true}
+use Rattle.spec.specs.Limits.{node-lines}
 use Rattle.ticket.proofs.AddLaws.{adding}
 use Rattle.ticket.proofs.adding.add_node.Statement.{statement}
 use Rattle.ticket.proofs.adding.add_node.Tie as tie
@@ -15,7 +16,7 @@ add-put-row-2 : tie.Need-add-put-row-2
 add-put-row-2 c = search needs
 
 put-row-requires : tie.Need-put-row-requires
-put-row-requires c κs = let l = ltb-true (c .before .before .before .before .before .args .counts .nodes) 256 (c .before .before .before .before .before .pre .3) in (omega arith, omega arith)
+put-row-requires c κs = let l = ltb-true (c .before .before .before .before .before .args .counts .nodes) node-lines (c .before .before .before .before .before .pre .3) in (omega arith, omega arith)
 
 add-t10 : tie.Need-add-t10
 add-t10 c = search needs

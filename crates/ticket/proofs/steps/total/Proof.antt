@@ -10,11 +10,11 @@ returns c = cap-out _ _ (omega arith)
 returns-2 : tie.Need-returns-2
 returns-2 c = cap-out _ _ (omega arith)
 
-add-t4 : tie.Need-add-t4
-add-t4 c = search needs
+add-t5 : tie.Need-add-t5
+add-t5 c = search needs
 
 returns-3 : tie.Need-returns-3
 returns-3 c = cap-in _ _ (omega arith)
 
 pub total-spec : {M : Type 1} → statement M
-total-spec = tie.close (tie.spec returns returns-2 add-t4 returns-3)
+total-spec = tie.close (tie.spec returns returns-2 add-t5 returns-3)
