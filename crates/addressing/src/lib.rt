@@ -1,4 +1,6 @@
 // A new pointer's storage, and the instructions that fill its two bytes with an address.
+#![tactic(auto)]
+
 ghost use Rattle.std.specs.Prelude.{◌∷◌, []};
 ghost use Rattle.spec.specs.Lir as spec-lir;
 ghost use Rattle.spec.specs.Allocation.{allocate_sized};

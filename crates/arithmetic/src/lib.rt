@@ -1,4 +1,6 @@
 // `lower_integer_unary` and `lower_integer_binary`, over values that are lowered already: a new temporary is filled, masked and read.
+#![tactic(auto)]
+
 ghost use Rattle.std.specs.Prelude.{◌≡◌, List, ℕ, ◌+◌, ◌*◌, ◌<◌};
 ghost use Rattle.spec.specs.Ticket as ticket;
 ghost use Rattle.spec.specs.Ticket.{Tables};

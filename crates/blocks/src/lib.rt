@@ -1,4 +1,6 @@
 // Valve weeks by row: blocks of 64 bytes transposed between days and valves, and bytes mirrored.
+#![tactic(auto)]
+
 mod table;
 
 ghost use Rattle.std.specs.Prelude.{◌≡◌, ◌+◌, ◌*◌, ◌≤◌, ◌<◌, ◌%◌, length};

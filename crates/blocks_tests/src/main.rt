@@ -1,6 +1,8 @@
 // Runs the three calls on cases with known answers and compares every byte of the output. Standard input has, for each, a header of 32
 // bytes, `CALL,LENGTH,ROOM,NUMBER,LINE` and line feeds behind it, then the input and what the output must hold after the call.
 // Prints how many ran and how many were answered otherwise.
+#![tactic(auto)]
+
 ghost use Rattle.std.specs.Prelude.{◌≡◌, length};
 ghost use Rattle.blocks.specs.Shown.{Answers};
 ghost use Rattle.blocks_tests.specs.Asked.{turned, fits, Holds};

@@ -1,5 +1,7 @@
 // What the test programs share: a case's numbers and texts from standard input, a buffer that is filled before a call and judged behind it,
 // and the count of what ran and failed.
+#![tactic(auto)]
+
 ghost use Rattle.std.specs.Prelude.{◌≡◌, true, ◌≤◌, length, take};
 ghost use Rattle.cases.specs.Cases.{Within, Reads, Heads, mark as mark_of, filling, kept, refusal, Printed, Refuses, Accepts, more as capped_after, Counted};
 ghost use Rattle.spec.specs.Text.{same as same_of};

@@ -1,6 +1,8 @@
 // The public entry: a ticket's text into the listing of its lowering, in a lent buffer.
 //
 // The work is done in slices that the caller lends; only the words for keys and a mark for each storage are cleared.
+#![tactic(auto)]
+
 ghost use Rattle.std.specs.Prelude.{◌≡◌, ℕ, ◌-◌, ◌*◌, ◌≤◌, length, drop, get_or};
 ghost use Rattle.spec.specs.Readable.{Readable};
 ghost use Rattle.spec.specs.Lower.{lowered};

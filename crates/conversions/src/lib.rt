@@ -1,5 +1,7 @@
 // `lower_conversion` and `lower_pointer_offset`, over values that are lowered already. What is not a value's own bytes stands in a new
 // temporary, which is filled, masked where its type has odd bits, and read.
+#![tactic(auto)]
+
 ghost use Rattle.std.specs.Prelude.{◌≡◌, List, ℕ, ◌<◌};
 ghost use Rattle.spec.specs.Hir as hir;
 ghost use Rattle.spec.specs.Ticket as ticket;

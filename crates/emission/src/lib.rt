@@ -1,5 +1,7 @@
 // Appending: allocation of storages, and instructions byte by byte. What is appended is printed at once, storages into one lent slice
 // and instructions into another; where there is no room nothing is stored, so the same code measures and writes.
+#![tactic(auto)]
+
 ghost use Rattle.std.specs.Prelude.{◌≡◌, ◌∷◌, [], ℕ, ◌+◌, ◌-◌, ◌*◌, ◌%◌, ◌^◌, ◌<◌, min, eqb};
 ghost use Rattle.std.proofs.Math.Option.{some};
 ghost use Rattle.spec.specs.Hir as hir;

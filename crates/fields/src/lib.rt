@@ -1,4 +1,6 @@
 // Reading within one line: bytes up to a mark, decimal numbers, keywords, and the numbers to a line's end.
+#![tactic(auto)]
+
 ghost use Rattle.std.specs.Prelude.{◌≡◌, ◌+◌, ◌*◌, ◌≤◌, length};
 ghost use Rattle.spec.specs.Text.{number as number_of, same as same_of, split, comma};
 ghost use Rattle.fields.specs.Fields.{Found, parsed_of, digits_from, NumberAt, Listing, position, place_of, WordAt, Tried, Same, Digits, QuickAt, LoneAt};

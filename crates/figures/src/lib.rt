@@ -2,6 +2,8 @@
 //
 // One pass over the text keeps a few numbers for each column. The two lines are printed twice: over a byte of our own, which tells their
 // length, and into the buffer once that is known to be long enough. So a refusal writes nothing.
+#![tactic(auto)]
+
 ghost use Rattle.std.specs.Prelude.{◌≡◌, ◌∷◌, ◌≤◌, ◌<◌, min, max, length};
 ghost use Rattle.spec.specs.Text.{digits, split, comma, line_feed};
 ghost use Rattle.spec.specs.Answer.{fitted};

@@ -1,6 +1,8 @@
 // Replays texts of `done` lines on the entry and compares every byte of its answers. Standard input has, for each, a line
 // `SIZE,ROOM,LENGTH`, then the text of SIZE bytes, and then the expected answer of LENGTH bytes: the annex, or the line
 // `refused,NUMBER,LINE`. The entry is lent ROOM bytes. Prints how many ran and how many were answered otherwise.
+#![tactic(auto)]
+
 ghost use Rattle.std.specs.Prelude.{length};
 ghost use Rattle.figures.specs.Lines.{answer};
 ghost use Rattle.cases.specs.Cases.{Right};

@@ -1,4 +1,6 @@
 // The tests of a line, and the words that they read and mark.
+#![tactic(auto)]
+
 pub mod checks;
 pub mod keys;
 pub mod limits;

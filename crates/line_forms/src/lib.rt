@@ -1,4 +1,6 @@
 // The form of a line: its kind, its word and its numbers.
+#![tactic(auto)]
+
 ghost use Rattle.std.specs.Prelude.{◌≡◌, ◌+◌, ◌*◌, ◌≤◌, length, get_or};
 ghost use Rattle.tables.specs.Tables.{run};
 ghost use Rattle.fields.specs.Fields.{fields_from, numbers_of, onto, WordAt};

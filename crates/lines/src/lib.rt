@@ -1,4 +1,6 @@
 // The line of one storage, as a part of the ticket or of the listing that was lent.
+#![tactic(auto)]
+
 ghost use Rattle.std.specs.Prelude.{◌≡◌, ◌≤◌, length, take};
 ghost use Rattle.lines.specs.Lines.{begins as begins_of, nth_line, storage_start, storage_line};
 ghost use Rattle.lines.specs.Handed.{span_of, place_of, Handed};

@@ -1,6 +1,8 @@
 // Asks for the lines of storages. Standard input has, for each case, a line `TICKET,LISTING,K,TEXT,FROM,TO` and then the bytes of both texts:
 // TICKET and LISTING are their lengths; TEXT is 0 where the ticket holds the line, 1 where the listing does, 2 where neither does; FROM and
 // TO are where it starts and where its line feed stands. Prints how many ran and how many were answered otherwise.
+#![tactic(auto)]
+
 ghost use Rattle.std.specs.Prelude.{◌≡◌, ◌&&◌, eqb};
 ghost use Rattle.lines.specs.Lines.{storage_line};
 ghost use Rattle.lines.specs.Handed.{place_of};

@@ -1,5 +1,7 @@
 // lir.rs's operands, instructions and storages by value. A value's bytes are a run of a storage's bytes or of a constant's, and zeros
 // behind it: constants, reads, truncation and extension all keep that form, so lists of operands need no room of their own.
+#![tactic(auto)]
+
 ghost use Rattle.std.specs.Prelude.{◌≡◌, ◌∷◌, ◌++◌, [], ◌/◌, ◌%◌, ◌^◌};
 ghost use Rattle.spec.specs.Text.{comma, digits};
 ghost use Rattle.spec.specs.Print.{byte_storage, byte_operand, bit_operand, carry_operand, listed, byte_binary_word, rotate_word, kind_number, kind_length, purpose_number, shift_number, compare_number, unary_number, binary_number, instruction_line, storage_line, narrowed_line, value_line, done_line};

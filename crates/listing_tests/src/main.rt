@@ -2,6 +2,8 @@
 // `LENGTH,LENGTH` and line feeds behind it, then the ticket and the expected answer: a listing, or the line `refused,NUMBER,LINE`.
 // An accepted ticket is lowered again into a buffer that just holds its listing, and into one that is a byte short.
 // Prints how many ran and how many were answered otherwise.
+#![tactic(auto)]
+
 ghost use Rattle.std.specs.Prelude.{length};
 ghost use Rattle.spec.specs.Answer.{answer};
 ghost use Rattle.cases.specs.Cases.{Right};

@@ -1,4 +1,6 @@
 // `lower`: a ticket on standard input; its listing, or `refused,NUMBER,LINE`, on standard output.
+#![tactic(auto)]
+
 ghost use Rattle.std.specs.Prelude.{◌+◌, ◌≤◌, length};
 
 use answers::Answer;

@@ -1,5 +1,7 @@
 // `lower_expression` over numbered node lines: a node's operands first, and then its own step over what they left. An aggregate's parts
 // stand on the lent stack; a step is given the state before its operands, whose top its own value goes by.
+#![tactic(auto)]
+
 ghost use Rattle.std.specs.Prelude.{◌≡◌, List, ℕ, ◌+◌, ◌≤◌};
 ghost use Rattle.spec.specs.Ticket.{expr_at, nowhere};
 ghost use Rattle.spec.specs.Readable.{Readable};

@@ -1,5 +1,7 @@
 // The integer operations of the WebAssembly Core Specification, chapter Numerics, at a width n from 1 to 64.
 // Operands are read modulo 2^n. At any other width the answer is 0, or Undefined.
+#![tactic(auto)]
+
 mod arithmetic;
 mod bits;
 mod compare;

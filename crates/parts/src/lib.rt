@@ -1,4 +1,6 @@
 // Values whose parts stand on the lent stack: a part taken out, or another put in its place, and the operands one by one.
+#![tactic(auto)]
+
 ghost use Rattle.std.specs.Prelude.{◌≡◌, ◌∷◌, ◌+◌, ◌/◌, ◌^◌, ◌≤◌, ◌<◌, length, take, drop};
 ghost use Rattle.std.proofs.lemmas.List.Edits.{sets};
 ghost use Rattle.values.specs.Heads.{head_of, records, skip, Sound_value};

@@ -1,4 +1,6 @@
 // Places: where a place line leads, in the Rust's steps. Nothing is appended; the answer is a location or a refusal's number.
+#![tactic(auto)]
+
 ghost use Rattle.std.specs.Prelude.{◌≡◌, List, ℕ, ◌+◌, ◌*◌, ◌≤◌, get_or, leb};
 ghost use Rattle.spec.specs.Limits.{offset_limit, type_size_limit};
 ghost use Rattle.spec.specs.Hir.{variable, static};

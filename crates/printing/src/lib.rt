@@ -1,4 +1,6 @@
 // Lines of the listing that are printed once lowering has ended: the storages that are narrowed, and the value.
+#![tactic(auto)]
+
 ghost use Rattle.std.specs.Prelude.{◌∷◌, ◌≤◌, length};
 ghost use Rattle.text.specs.Put.{Put};
 ghost use Rattle.values.specs.Heads.{head_of, Sound_value};

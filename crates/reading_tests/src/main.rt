@@ -1,5 +1,7 @@
 // Replays damaged and boundary tickets on the ticket reader. Standard input has, for each, a line `LENGTH,NUMBER,LINE` and then the
 // ticket's bytes; NUMBER 0 says that reading accepts it. Prints how many ran and how many were answered otherwise.
+#![tactic(auto)]
+
 ghost use Rattle.spec.specs.Read.{read_ticket as read_ticket_lem};
 ghost use Rattle.reading_tests.specs.Asked.{Holds};
 

@@ -1,5 +1,7 @@
 // `read_bytes_as_type` and `read_location`: a storage's bytes as a value of a type. Only a Bool appends something, a bit and the
 // instruction that fills it.
+#![tactic(auto)]
+
 ghost use Rattle.std.specs.Prelude.{◌≡◌, List, ℕ, ◌+◌, ◌-◌, ◌/◌, ◌≤◌};
 ghost use Rattle.std.proofs.lemmas.List.Edits.{sets};
 ghost use Rattle.spec.specs.Hir as hir;

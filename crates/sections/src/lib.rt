@@ -3,6 +3,8 @@
 // The ticket is lowered over two lent slices, which finds every refusal and where each section of the listing ends. If the buffer is
 // long enough, the listing is copied from them; one that they have no room for is made in the buffer, by lowering again for the storages'
 // section, and once more for the instructions'. So a refusal writes nothing.
+#![tactic(auto)]
+
 ghost use Rattle.std.specs.Prelude.{◌≡◌, ℕ, ◌+◌, ◌-◌, ◌≤◌, length, take, get_or};
 ghost use Rattle.std.proofs.lemmas.List.Edits.{sets};
 ghost use Rattle.spec.specs.Lower.{lowered};

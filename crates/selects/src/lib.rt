@@ -1,4 +1,6 @@
 // `lower_select` over two values whose parts stand on the lent stack: an instruction for each of their operands.
+#![tactic(auto)]
+
 ghost use Rattle.std.specs.Prelude.{◌≡◌, List, ◌∷◌, [], ℕ, ◌+◌, ◌≤◌, length};
 ghost use Rattle.spec.specs.Lir as spec-lir;
 ghost use Rattle.spec.specs.Readable.{Readable};

@@ -1,4 +1,6 @@
 // Steps of a node over values that are lowered already. A step that looks at a value's head alone is given the head.
+#![tactic(auto)]
+
 ghost use Rattle.std.specs.Prelude.{◌≡◌, List, ℕ};
 ghost use Rattle.spec.specs.Hir as hir;
 ghost use Rattle.spec.specs.Hir.{boolean, null_pointer};

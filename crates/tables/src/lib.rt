@@ -1,5 +1,7 @@
 // The tables that a ticket is read into, and look-ups into them. Each is total: past a table's end it answers what the definitions give
 // for a number that no line has.
+#![tactic(auto)]
+
 ghost use Rattle.std.specs.Prelude.{◌≡◌, ◌+◌, ◌≤◌, ◌<◌, get_or};
 ghost use Rattle.spec.specs.Ticket.{arg as arg_of};
 ghost use Rattle.spec.specs.Operands.{nth};

@@ -1,4 +1,6 @@
 // Texts as bytes: decimal numbers, fields and lines.
+#![tactic(auto)]
+
 ghost use Rattle.std.specs.Prelude.{◌≡◌, ◌∷◌, [], ◌≤◌, ◌<◌, length};
 ghost use Rattle.spec.specs.Text.{digits};
 ghost use Rattle.text.specs.Put.{Put};

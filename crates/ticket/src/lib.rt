@@ -1,4 +1,6 @@
 // The ticket: its lines as tables, the expression that they stand for, and its reading.
+#![tactic(auto)]
+
 use tables::Counts;
 
 mod adding;

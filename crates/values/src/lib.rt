@@ -1,5 +1,7 @@
 // Lowered values. A value's head goes by value; an aggregate's parts stand on a lent stack in pre-order, a record of 8 words each, and
 // its head holds how many parts it has and how many records stand there for them.
+#![tactic(auto)]
+
 ghost use Rattle.std.specs.Prelude.{◌≡◌, ◌+◌, ◌<◌, ◌^◌, get_or};
 ghost use Rattle.std.proofs.lemmas.List.Edits.{sets};
 ghost use Rattle.values.specs.Left.{at_top, bit_words, bytes_words, value_words};

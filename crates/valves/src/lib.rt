@@ -1,4 +1,6 @@
 // Valve maps as tickets: the panel's mask of eight bytes or the phone's list of valve numbers becomes the ticket that opens those valves.
+#![tactic(auto)]
+
 ghost use Rattle.std.specs.Prelude.{◌≡◌, ◌-◌, ◌^◌, ◌≤◌, length};
 ghost use Rattle.std.proofs.Math.Option.{some};
 ghost use Rattle.spec.specs.Machine.{le};

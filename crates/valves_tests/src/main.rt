@@ -1,6 +1,8 @@
 // Replays valve maps on the two entry points and compares every byte of their answers. Standard input has, for each, a header of 48 bytes,
 // `KIND,N,ROOM,LENGTH,LENGTH` and line feeds behind it, then the map and the expected answer: a ticket, or the line `refused,NUMBER,LINE`.
 // KIND 0 is a mask, 1 a list; ROOM is the length of the lent buffer. Prints how many ran and how many were answered otherwise.
+#![tactic(auto)]
+
 ghost use Rattle.std.specs.Prelude.{length};
 ghost use Rattle.cases.specs.Cases.{Right};
 ghost use Rattle.valves.specs.Tickets.{Answers};

@@ -1,6 +1,8 @@
 // Runs the tests of the WebAssembly specification on the functions of the crate numerics, and worked examples at other widths. Standard input
 // has tables: a line with a table's name, one with how many cases it has, and for each case a line of five numbers, the operation, its three
 // arguments and the result. Prints for each table how many cases ran and how many failed.
+#![tactic(auto)]
+
 ghost use Rattle.std.specs.Prelude.{◌≡◌, get_or};
 ghost use Rattle.wasm_tests.specs.Answers.{answer_of, is};
 

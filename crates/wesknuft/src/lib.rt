@@ -1,4 +1,6 @@
 // The entry for programs in C and Rust: `compiler::lower_in` with its answer in numbers. rust/wesknuft-lower has the header and a safe crate.
+#![tactic(auto)]
+
 ghost use Rattle.std.specs.Prelude.{length};
 ghost use Rattle.spec.specs.Answer.{answer};
 ghost use Rattle.compiler.specs.Lent.{Short, FewRows};

@@ -1,0 +1,15 @@
+-- `numerics::compare::ieq` meets its contract: the test of the reduced operands.
+use Rattle.std.proofs.Common.{ℕ, eqb, ◌∙◌, ap₂, rules}
+use Rattle.numerics.specs.Numerics.{ieq, truth}
+use Rattle.numerics.proofs.Answers.{binary_is, outside}
+use Rattle.numerics.proofs.compare.ieq.Goals as goal
+
+pub returns-in-1-to-64 : goal.returns-in-1-to-64
+unfolding ieq
+returns-in-1-to-64 c = binary_is _ _ _ _ _ (search rules) (c.same.ensures ∙ ap₂ (λ (x y : ℕ). truth (eqb x y)) c.low.ensures c.low-in-1-to-64.ensures)
+
+pub returns-in_default : goal.returns-in_default
+returns-in_default c = search (outside, rules)
+
+pub returns-in_default-2 : goal.returns-in_default-2
+returns-in_default-2 c = search (outside, rules)
