@@ -81,7 +81,7 @@ module _ (T : Tables) (m : More) where
       → (o : ℕ) (ts : List ℕ) → Follows (read_fields T rd o ts) (read_fields (extended T m) rd' o ts)
   unfolding read_fields type_size
   fields_alike rd rd' d o [] = answers
-  fields_alike rd rd' d o (t ∷ ts) = d t o then λ v. fields_alike rd rd' d _ ts then λ vs. answers
+  fields_alike rd rd' d o (t ∷ ts) = d t o then λ v. fields_alike rd rd' d (o + type_size T t) ts then λ vs. answers
 
   word_alike : (rd rd' : ℕ → ℕ → Lower Value) → ((t o : ℕ) → Follows (rd t o) (rd' t o))
       → (s ty o : ℕ) (w : TypeWord) (xs : List ℕ) → Follows (read_word T rd s ty o w xs) (read_word (extended T m) rd' s ty o w xs)

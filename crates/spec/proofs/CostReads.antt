@@ -100,7 +100,7 @@ elements_do : (L : List Storage) (rd : ℕ → Lower Value) (k w size : ℕ) →
 unfolding read_elements records
 elements_do L rd k w size d P zero o = within (answers (λ p. zero-le)) (λ p. omega arith)
 elements_do L rd k w size d P (suc n) o =
-    within (d P o then λ v. elements_do L rd k w size d _ n (o + size) then λ vs. answers (λ p. omega arith)) (λ p. omega arith)
+    within (d P o then λ v. elements_do L rd k w size d (P × Small w v) n (o + size) then λ vs. answers (λ p. omega arith)) (λ p. omega arith)
 
 module _ (T : Tables) (R : TypesRight T) (L : List Storage) where
   -- fields, each no more than its own type
@@ -109,7 +109,7 @@ module _ (T : Tables) (R : TypesRight T) (L : List Storage) where
   unfolding read_fields records
   fields_do rd d P [] o = answers (λ p. zero-le)
   fields_do rd d P (t ∷ ts) o =
-      within (d P t o then λ v. fields_do rd d _ ts (o + type_size T t) then λ vs. answers (λ p. omega arith)) (λ p. omega arith)
+      within (d P t o then λ v. fields_do rd d (P × Small (weight_of T t) v) ts (o + type_size T t) then λ vs. answers (λ p. omega arith)) (λ p. omega arith)
 
   bool_byte_do : (P : Type 0) (s ty o : ℕ) → Does L P (read_bool_byte T s ty o) (reading 1) (Small 1)
   unfolding read_bool_byte allocate_bit_temporary records kind_bytes writes

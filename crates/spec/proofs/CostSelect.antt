@@ -47,7 +47,7 @@ module _ {L : List Storage} (c : BitOperand) where
   piece_inside (byte_storage d) (bit_operand t) f i p e = absurd (none-ne-some i e)
 
   -- no more pieces than destinations
-  pieces_does : {P : Type 0} (ds : List ValueStorage) (ts fs : List ValueOperand) → (P → Each (Piece L) ds)
+  pieces_does : (ds : List ValueStorage) {P : Type 0} (ts fs : List ValueOperand) → (P → Each (Piece L) ds)
       → Does L P (select_pieces c ds ts fs) (emitted (length ds)) Any
   unfolding select_pieces
   pieces_does [] ts fs g = answers (λ p. tt)

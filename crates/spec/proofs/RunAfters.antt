@@ -19,11 +19,17 @@ module _ (G : Given) (T : Tables) where
       → Denotes n' M' (value_repr v) (number k a) → ((bs : List ByteOperand) → Fixed n' M' bs (bytes_of k a) → From G n' M' (f (value ty (bytes_value bs))) Q)
       → From G n' M' (f v) Q
   bytes_then f (value t (bytes_value bs)) e (of_bytes p) c = rw e (c bs p)
+  bytes_then f (value t Rattle.spec.specs.Lir.unit) e x c = elim x [ ]
+  bytes_then f (value t (bit_value b)) e x c = elim x [ ]
+  bytes_then f (value t (Rattle.spec.specs.Lir.aggregate vs)) e x c = elim x [ ]
 
   bit_then : {n' ty x : ℕ} {M' : Memory} {B : Type 0} (f : Value → Lower B) {Q : B → ℕ → Memory → Type 0} (v : Value) → value_type v ≡ ty
       → Denotes n' M' (value_repr v) (flag x) → ((b : BitOperand) → FixedBit n' M' b x → From G n' M' (f (value ty (bit_value b))) Q)
       → From G n' M' (f v) Q
   bit_then f (value t (bit_value b)) e (of_bit p) c = rw e (c b p)
+  bit_then f (value t Rattle.spec.specs.Lir.unit) e x c = elim x [ ]
+  bit_then f (value t (bytes_value bs)) e x c = elim x [ ]
+  bit_then f (value t (Rattle.spec.specs.Lir.aggregate vs)) e x c = elim x [ ]
 
   -- the bytes of a number of a bits type
   pub number_after : {t ty w n : ℕ} {M : Memory} {d : Data} {B : Type 0} {f : Value → Lower B} {Q : B → ℕ → Memory → Type 0} → t ≡ ty → IsBits T ty w

@@ -63,17 +63,17 @@ module _ (T : Tables) (s : ℕ) where
     Reader f rd = (ty o n : ℕ) (M : Memory) (d : Data) → s < n → Stands M f ty o d → From G n M (rd ty o) (Gives T n M ty d)
 
     module _ {f : ℕ} (rd : ℕ → ℕ → Lower Value) (R : Reader f rd) where
-      fields_read : {n : ℕ} {M : Memory} (ts : List ℕ) (o : ℕ) (ds : Datas) → s < n → StandAll M f ts o ds → From G n M (read_fields T rd o ts) (GivesAll T n M ts ds)
+      fields_read : (ts : List ℕ) {n : ℕ} {M : Memory} (o : ℕ) (ds : Datas) → s < n → StandAll M f ts o ds → From G n M (read_fields T rd o ts) (GivesAll T n M ts ds)
       unfolding read_fields
       fields_read [] o ds h stand_none = nothing_read G T
-      fields_read {n} {M} (t ∷ ts) o ds h (stand_more {d = d} {ds = es} p ps) =
+      fields_read (t ∷ ts) {n} {M} o ds h (stand_more {d = d} {ds = es} p ps) =
           ◌then◌ G (R t o n M d h p) (one_more G T (λ n₁ M₁ l a. fields_read ts _ es (le_trans h l) (stand_later h a ps)))
 
-      elements_read : {n : ℕ} {M : Memory} (t k o : ℕ) (ds : Datas) → s < n → StandAll M f (replicate k t) o ds
+      elements_read : (t k : ℕ) {n : ℕ} {M : Memory} (o : ℕ) (ds : Datas) → s < n → StandAll M f (replicate k t) o ds
           → From G n M (read_elements (rd t) (type_size T t) o k) (GivesAll T n M (replicate k t) ds)
       unfolding read_elements
       elements_read t zero o ds h stand_none = nothing_read G T
-      elements_read {n} {M} t (suc k) o ds h (stand_more {d = d} {ds = es} p ps) =
+      elements_read t (suc k) {n} {M} o ds h (stand_more {d = d} {ds = es} p ps) =
           ◌then◌ G (R t o n M d h p) (one_more G T (λ n₁ M₁ l a. elements_read t k _ es (le_trans h l) (stand_later h a ps)))
 
     plain_read : {n : ℕ} {M : Memory} (ty k x o : ℕ) → s < n → Plain T ty x → (type_at T ty).size ≡ k → operands M (map stored (bytes_from s o k)) ≡ bytes_of k x
