@@ -1,5 +1,5 @@
 -- `arithmetic::binary_form` meets its contract: each number picks its place in the list, and any other is past its end.
-use borrow.Author.Rules.{zero≤}
+use Prim.Native.Nat.{zero-le}
 use mathlib.Core.Path.{ap}
 use Rattle.spec.specs.Operators.{binary_form}
 use Rattle.tables.proofs.Laws.{past}
@@ -85,7 +85,7 @@ returns-19 c = rw c.match.keys19
 
 returns-20 : tie.Need-returns-20
 unfolding binary_form
-returns-20 c = let r = c.match.rest in ap binary_form (past_binary _ (past (past (past (past (past (past (past (past (past (past (past (past (past (past (past (past (past (past (past zero≤ r.0.0.0.0.0.0.0.0.0.0.0.0.0.0.0.0.0.0.1) r.0.0.0.0.0.0.0.0.0.0.0.0.0.0.0.0.0.1) r.0.0.0.0.0.0.0.0.0.0.0.0.0.0.0.0.1) r.0.0.0.0.0.0.0.0.0.0.0.0.0.0.0.1) r.0.0.0.0.0.0.0.0.0.0.0.0.0.0.1) r.0.0.0.0.0.0.0.0.0.0.0.0.0.1) r.0.0.0.0.0.0.0.0.0.0.0.0.1) r.0.0.0.0.0.0.0.0.0.0.0.1) r.0.0.0.0.0.0.0.0.0.0.1) r.0.0.0.0.0.0.0.0.0.1) r.0.0.0.0.0.0.0.0.1) r.0.0.0.0.0.0.0.1) r.0.0.0.0.0.0.1) r.0.0.0.0.0.1) r.0.0.0.0.1) r.0.0.0.1) r.0.0.1) r.0.1) r.1))
+returns-20 c = let r = c.match.rest in ap binary_form (past_binary _ (past (past (past (past (past (past (past (past (past (past (past (past (past (past (past (past (past (past (past zero-le r.0.0.0.0.0.0.0.0.0.0.0.0.0.0.0.0.0.0.1) r.0.0.0.0.0.0.0.0.0.0.0.0.0.0.0.0.0.1) r.0.0.0.0.0.0.0.0.0.0.0.0.0.0.0.0.1) r.0.0.0.0.0.0.0.0.0.0.0.0.0.0.0.1) r.0.0.0.0.0.0.0.0.0.0.0.0.0.0.1) r.0.0.0.0.0.0.0.0.0.0.0.0.0.1) r.0.0.0.0.0.0.0.0.0.0.0.0.1) r.0.0.0.0.0.0.0.0.0.0.0.1) r.0.0.0.0.0.0.0.0.0.0.1) r.0.0.0.0.0.0.0.0.0.1) r.0.0.0.0.0.0.0.0.1) r.0.0.0.0.0.0.0.1) r.0.0.0.0.0.0.1) r.0.0.0.0.0.1) r.0.0.0.0.1) r.0.0.0.1) r.0.0.1) r.0.1) r.1))
 
 pub binary-form-spec : {M : Type 1} → statement M
 binary-form-spec =

@@ -1,5 +1,5 @@
 -- `arithmetic::unary_form` meets its contract: each number picks its place in the list, and any other is past its end.
-use borrow.Author.Rules.{zero≤}
+use Prim.Native.Nat.{zero-le}
 use mathlib.Core.Path.{ap}
 use Rattle.spec.specs.Operators.{unary_form}
 use Rattle.tables.proofs.Laws.{past}
@@ -29,7 +29,7 @@ returns-5 c = rw c.match.keys5
 
 returns-6 : tie.Need-returns-6
 unfolding unary_form
-returns-6 c = let r = c.match.rest in ap unary_form (past_unary _ (past (past (past (past (past zero≤ r.0.0.0.0.1) r.0.0.0.1) r.0.0.1) r.0.1) r.1))
+returns-6 c = let r = c.match.rest in ap unary_form (past_unary _ (past (past (past (past (past zero-le r.0.0.0.0.1) r.0.0.0.1) r.0.0.1) r.0.1) r.1))
 
 pub unary-form-spec : {M : Type 1} → statement M
 unary-form-spec = tie.close (tie.spec returns returns-2 returns-3 returns-4 returns-5 returns-6)

@@ -1,5 +1,5 @@
 -- `conversions::conversion_form` meets its contract: each number picks its place in the list, and any other is past its end.
-use borrow.Author.Rules.{zero≤}
+use Prim.Native.Nat.{zero-le}
 use mathlib.Core.Path.{ap}
 use Rattle.spec.specs.Operators.{conversion_form}
 use Rattle.tables.proofs.Laws.{past}
@@ -65,7 +65,7 @@ returns-14 c = rw c.match.keys14
 
 returns-15 : tie.Need-returns-15
 unfolding conversion_form
-returns-15 c = let r = c.match.rest in ap conversion_form (past_ops _ (past (past (past (past (past (past (past (past (past (past (past (past (past (past (zero≤) r.0.0.0.0.0.0.0.0.0.0.0.0.0.1) r.0.0.0.0.0.0.0.0.0.0.0.0.1) r.0.0.0.0.0.0.0.0.0.0.0.1) r.0.0.0.0.0.0.0.0.0.0.1) r.0.0.0.0.0.0.0.0.0.1) r.0.0.0.0.0.0.0.0.1) r.0.0.0.0.0.0.0.1) r.0.0.0.0.0.0.1) r.0.0.0.0.0.1) r.0.0.0.0.1) r.0.0.0.1) r.0.0.1) r.0.1) r.1))
+returns-15 c = let r = c.match.rest in ap conversion_form (past_ops _ (past (past (past (past (past (past (past (past (past (past (past (past (past (past (zero-le) r.0.0.0.0.0.0.0.0.0.0.0.0.0.1) r.0.0.0.0.0.0.0.0.0.0.0.0.1) r.0.0.0.0.0.0.0.0.0.0.0.1) r.0.0.0.0.0.0.0.0.0.0.1) r.0.0.0.0.0.0.0.0.0.1) r.0.0.0.0.0.0.0.0.1) r.0.0.0.0.0.0.0.1) r.0.0.0.0.0.0.1) r.0.0.0.0.0.1) r.0.0.0.0.1) r.0.0.0.1) r.0.0.1) r.0.1) r.1))
 
 pub conversion-form-spec : {M : Type 1} → statement M
 conversion-form-spec =

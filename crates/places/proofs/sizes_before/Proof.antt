@@ -1,7 +1,7 @@
 -- `places::sizes_before` meets its contract: the loop holds the sum over the fields passed; the sum over all of them is small.
 use Prim.Native.Nat.{◌+◌, ◌-◌, ◌≤◌}
 use native.Mathlib.Omega.{arith}
-use borrow.Author.Rules.{zero≤}
+use Prim.Native.Nat.{zero-le}
 use mathlib.Core.Path.{◌≡◌, sym}
 use Rattle.spec.specs.Ticket.{sum}
 use Rattle.spec.specs.Allocation.{type_size}
@@ -17,7 +17,7 @@ abbrev decreases-loop : tie.decreases-loop
 decreases-loop rows nodes lists counts start n total₀ i₀ total i = n - i
 
 loop-holds : tie.Need-loop-init invariant-loop decreases-loop
-loop-holds c = (zero≤, sym (sum_run_none (type_size (tables_of c.before.before.before.args.rows.now c.before.before.before.args.nodes.now c.before.before.before.args.lists.now c.before.before.before.args.counts)) _ _))
+loop-holds c = (zero-le, sym (sum_run_none (type_size (tables_of c.before.before.before.args.rows.now c.before.before.before.args.nodes.now c.before.before.before.args.lists.now c.before.before.before.args.counts)) _ _))
 
 field-size-requires : tie.Need-field-size-requires invariant-loop decreases-loop
 field-size-requires c κs = c.before.before.before.before.before.requires.0

@@ -1,5 +1,5 @@
 -- `steps::compare_op` meets its contract: each number picks its place in the list, and any other is past its end.
-use borrow.Author.Rules.{zero≤}
+use Prim.Native.Nat.{zero-le}
 use mathlib.Core.Path.{ap}
 use Rattle.spec.specs.Operators.{compare_op}
 use Rattle.tables.proofs.Laws.{past}
@@ -73,7 +73,7 @@ returns-16 c = rw c.match.keys16
 
 returns-17 : tie.Need-returns-17
 unfolding compare_op
-returns-17 c = let r = c.match.rest in ap compare_op (past_ops _ (past (past (past (past (past (past (past (past (past (past (past (past (past (past (past (past zero≤ r.0.0.0.0.0.0.0.0.0.0.0.0.0.0.0.1) r.0.0.0.0.0.0.0.0.0.0.0.0.0.0.1) r.0.0.0.0.0.0.0.0.0.0.0.0.0.1) r.0.0.0.0.0.0.0.0.0.0.0.0.1) r.0.0.0.0.0.0.0.0.0.0.0.1) r.0.0.0.0.0.0.0.0.0.0.1) r.0.0.0.0.0.0.0.0.0.1) r.0.0.0.0.0.0.0.0.1) r.0.0.0.0.0.0.0.1) r.0.0.0.0.0.0.1) r.0.0.0.0.0.1) r.0.0.0.0.1) r.0.0.0.1) r.0.0.1) r.0.1) r.1))
+returns-17 c = let r = c.match.rest in ap compare_op (past_ops _ (past (past (past (past (past (past (past (past (past (past (past (past (past (past (past (past zero-le r.0.0.0.0.0.0.0.0.0.0.0.0.0.0.0.1) r.0.0.0.0.0.0.0.0.0.0.0.0.0.0.1) r.0.0.0.0.0.0.0.0.0.0.0.0.0.1) r.0.0.0.0.0.0.0.0.0.0.0.0.1) r.0.0.0.0.0.0.0.0.0.0.0.1) r.0.0.0.0.0.0.0.0.0.0.1) r.0.0.0.0.0.0.0.0.0.1) r.0.0.0.0.0.0.0.0.1) r.0.0.0.0.0.0.0.1) r.0.0.0.0.0.0.1) r.0.0.0.0.0.1) r.0.0.0.0.1) r.0.0.0.1) r.0.0.1) r.0.1) r.1))
 
 pub compare-op-spec : {M : Type 1} → statement M
 compare-op-spec =

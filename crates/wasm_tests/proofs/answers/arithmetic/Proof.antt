@@ -1,5 +1,6 @@
 -- Each number is its operation, and any other none.
-use borrow.Author.Rules.{zero≤, rules}
+use borrow.Author.Rules.{rules}
+use Prim.Native.Nat.{zero-le}
 use Rattle.tables.proofs.Laws.{past}
 use Rattle.wasm_tests.proofs.Laws.{arithmetic_past}
 use Rattle.wasm_tests.specs.Answers.{arithmetic_of}
@@ -63,7 +64,7 @@ unfolding arithmetic_of
 returns-8 c = rw c.before.match.keys8 c.isub_sat_s.ensures
 
 returns-9 : tie.Need-returns-9
-returns-9 c = let r = c.match.rest in arithmetic_past _ _ _ _ (past (past (past (past (past (past (past (past zero≤ r.0.0.0.0.0.0.0.1) r.0.0.0.0.0.0.1) r.0.0.0.0.0.1) r.0.0.0.0.1) r.0.0.0.1) r.0.0.1) r.0.1) r.1)
+returns-9 c = let r = c.match.rest in arithmetic_past _ _ _ _ (past (past (past (past (past (past (past (past zero-le r.0.0.0.0.0.0.0.1) r.0.0.0.0.0.0.1) r.0.0.0.0.0.1) r.0.0.0.0.1) r.0.0.0.1) r.0.0.1) r.0.1) r.1)
 
 pub arithmetic-spec : {M : Type 1} → statement M
 arithmetic-spec =

@@ -1,5 +1,6 @@
 -- Each number is its operation, and any other none.
-use borrow.Author.Rules.{zero≤, rules}
+use borrow.Author.Rules.{rules}
+use Prim.Native.Nat.{zero-le}
 use Rattle.tables.proofs.Laws.{past}
 use Rattle.wasm_tests.proofs.Laws.{bits_past}
 use Rattle.wasm_tests.specs.Answers.{bits_of}
@@ -91,7 +92,7 @@ unfolding bits_of
 returns-12 c = rw c.before.match.keys12 c.ipopcnt.ensures
 
 returns-13 : tie.Need-returns-13
-returns-13 c = let r = c.match.rest in bits_past _ _ _ _ (past (past (past (past (past (past (past (past (past (past (past (past zero≤ r.0.0.0.0.0.0.0.0.0.0.0.1) r.0.0.0.0.0.0.0.0.0.0.1) r.0.0.0.0.0.0.0.0.0.1) r.0.0.0.0.0.0.0.0.1) r.0.0.0.0.0.0.0.1) r.0.0.0.0.0.0.1) r.0.0.0.0.0.1) r.0.0.0.0.1) r.0.0.0.1) r.0.0.1) r.0.1) r.1)
+returns-13 c = let r = c.match.rest in bits_past _ _ _ _ (past (past (past (past (past (past (past (past (past (past (past (past zero-le r.0.0.0.0.0.0.0.0.0.0.0.1) r.0.0.0.0.0.0.0.0.0.0.1) r.0.0.0.0.0.0.0.0.0.1) r.0.0.0.0.0.0.0.0.1) r.0.0.0.0.0.0.0.1) r.0.0.0.0.0.0.1) r.0.0.0.0.0.1) r.0.0.0.0.1) r.0.0.0.1) r.0.0.1) r.0.1) r.1)
 
 pub bits-spec : {M : Type 1} → statement M
 bits-spec =

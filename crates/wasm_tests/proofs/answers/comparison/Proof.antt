@@ -1,5 +1,6 @@
 -- Each number is its operation, and any other none.
-use borrow.Author.Rules.{zero≤, rules}
+use borrow.Author.Rules.{rules}
+use Prim.Native.Nat.{zero-le}
 use Rattle.tables.proofs.Laws.{past}
 use Rattle.wasm_tests.proofs.Laws.{comparison_past}
 use Rattle.wasm_tests.specs.Answers.{comparison_of}
@@ -84,7 +85,7 @@ unfolding comparison_of
 returns-11 c = rw c.before.match.keys11 c.ige_s.ensures
 
 returns-12 : tie.Need-returns-12
-returns-12 c = let r = c.match.rest in comparison_past _ _ _ _ (past (past (past (past (past (past (past (past (past (past (past zero≤ r.0.0.0.0.0.0.0.0.0.0.1) r.0.0.0.0.0.0.0.0.0.1) r.0.0.0.0.0.0.0.0.1) r.0.0.0.0.0.0.0.1) r.0.0.0.0.0.0.1) r.0.0.0.0.0.1) r.0.0.0.0.1) r.0.0.0.1) r.0.0.1) r.0.1) r.1)
+returns-12 c = let r = c.match.rest in comparison_past _ _ _ _ (past (past (past (past (past (past (past (past (past (past (past zero-le r.0.0.0.0.0.0.0.0.0.0.1) r.0.0.0.0.0.0.0.0.0.1) r.0.0.0.0.0.0.0.0.1) r.0.0.0.0.0.0.0.1) r.0.0.0.0.0.0.1) r.0.0.0.0.0.1) r.0.0.0.0.1) r.0.0.0.1) r.0.0.1) r.0.1) r.1)
 
 pub comparison-spec : {M : Type 1} → statement M
 comparison-spec =

@@ -1,5 +1,6 @@
 -- Each number is its operation, and any other none.
-use borrow.Author.Rules.{zero≤, rules}
+use borrow.Author.Rules.{rules}
+use Prim.Native.Nat.{zero-le}
 use Rattle.tables.proofs.Laws.{past}
 use Rattle.wasm_tests.proofs.Laws.{conversion_past}
 use Rattle.wasm_tests.specs.Answers.{conversion_of}
@@ -28,7 +29,7 @@ unfolding conversion_of
 returns-3 c = rw c.before.match.keys3 c.extend_s.ensures
 
 returns-4 : tie.Need-returns-4
-returns-4 c = let r = c.match.rest in conversion_past _ _ _ _ (past (past (past zero≤ r.0.0.1) r.0.1) r.1)
+returns-4 c = let r = c.match.rest in conversion_past _ _ _ _ (past (past (past zero-le r.0.0.1) r.0.1) r.1)
 
 pub conversion-spec : {M : Type 1} → statement M
 conversion-spec =

@@ -1,6 +1,7 @@
 -- Each number is its operation, and any other none.
 use mathlib.Core.Path.{ap, ◌∙◌}
-use borrow.Author.Rules.{zero≤, rules}
+use borrow.Author.Rules.{rules}
+use Prim.Native.Nat.{zero-le}
 use Rattle.tables.proofs.Laws.{past}
 use Rattle.wasm_tests.proofs.Laws.{quotient_past}
 use Rattle.wasm_tests.specs.Answers.{quotient_of, traps}
@@ -76,7 +77,7 @@ unfolding quotient_of
 returns-8 c = rw c.before.before.match.keys8 (c.undefined4.ensures ∙ ap traps c.before.irem-s2.ensures)
 
 returns-9 : tie.Need-returns-9
-returns-9 c = let r = c.match.rest in quotient_past _ _ _ _ (past (past (past (past (past (past (past (past zero≤ r.0.0.0.0.0.0.0.1) r.0.0.0.0.0.0.1) r.0.0.0.0.0.1) r.0.0.0.0.1) r.0.0.0.1) r.0.0.1) r.0.1) r.1)
+returns-9 c = let r = c.match.rest in quotient_past _ _ _ _ (past (past (past (past (past (past (past (past zero-le r.0.0.0.0.0.0.0.1) r.0.0.0.0.0.0.1) r.0.0.0.0.0.1) r.0.0.0.0.1) r.0.0.0.1) r.0.0.1) r.0.1) r.1)
 
 pub quotient-spec : {M : Type 1} → statement M
 quotient-spec =

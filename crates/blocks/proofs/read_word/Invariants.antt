@@ -1,0 +1,12 @@
+use native.Mathlib.Omega.{arith}
+use borrow.Author.Rules.{rules}
+use Rattle.blocks.proofs.Words.{Read, read_none, read_more, read_all, read_fits, inside}
+use lib.ListN.{length}
+use Prim.Native.Nat.{ℕ, ◌-◌}
+use Rattle.blocks.proofs.read_word.Given as goal
+
+abbrev pub invariant-loop-i : goal.invariant-loop-i
+invariant-loop-i l = Read l.input l.from l.step l.i l.word
+
+abbrev pub decreases-loop-i : goal.decreases-loop-i
+decreases-loop-i l = l.i

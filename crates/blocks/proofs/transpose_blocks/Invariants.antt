@@ -1,0 +1,15 @@
+use native.Mathlib.Omega.{arith}
+use borrow.Author.Rules.{rules}
+use Rattle.blocks.proofs.Squares.{Squares, squares_none, squares_all}
+use Rattle.blocks.proofs.Directions.{of_valves, valves_more}
+use lib.ListN.{length}
+use Prim.Native.Nat.{ℕ, ◌-◌, ◌/◌}
+use Rattle.blocks.specs.Blocks.{transposed}
+use Rattle.blocks.proofs.Inverse.{length_transposed}
+use Rattle.blocks.proofs.transpose_blocks.Given as goal
+
+abbrev pub invariant-loop-t : goal.invariant-loop-t
+invariant-loop-t l = Squares of_valves (transposed l.input) l.initial.output l.t l.output
+
+abbrev pub decreases-loop-t : goal.decreases-loop-t
+decreases-loop-t l = length l.input / 8 - l.t

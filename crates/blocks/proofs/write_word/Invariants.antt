@@ -1,0 +1,13 @@
+use native.Mathlib.Omega.{arith}
+use Rattle.blocks.specs.Words.{Spread}
+use Rattle.blocks.proofs.Words.{spread_none, spread_more, inside}
+use lib.ListN.{length}
+use Prim.Native.Nat.{◌-◌, ◌≤◌}
+use mathlib.Core.Path.{refl, ◌≡◌}
+use Rattle.blocks.proofs.write_word.Given as goal
+
+abbrev pub invariant-loop-i : goal.invariant-loop-i
+invariant-loop-i l = (l.i ≤ 8) × Spread l.word l.to l.step l.i l.initial.output l.output
+
+abbrev pub decreases-loop-i : goal.decreases-loop-i
+decreases-loop-i l = 8 - l.i
