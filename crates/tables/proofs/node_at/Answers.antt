@@ -6,9 +6,9 @@ use Prim.Native.Nat.{◌-◌}
 use native.Mathlib.Omega.{arith}
 use Rattle.tables.specs.Tables.{node_kind_at}
 use Rattle.tables.proofs.node_at.Goals as goal
+use Rattle.tables.proofs.node_at.Goals.{then-n-eq0, else-n-eq0}
 
 pub returns : goal.returns
 unfolding node_kind_at
-returns c = let b = c in
-    let e : c.if-n-eq0.rest ≡ b.cell3.result - 1 = ⊎_elim (λ w. omega arith) (λ w. omega arith) c.if-n-eq0.branch in
-    rw (← b.before.before.cell.ensures, ← b.before.cell2.ensures, ← b.cell3.ensures, ← c.behind.ensures, ← e) c.node_in.ensures
+returns c = let e : c.if-n-eq0.rest ≡ c.cell-n.result - 1 = elim c.if-n-eq0.branch [ then-n-eq0 w ↦ omega arith | else-n-eq0 w ↦ omega arith ] in
+    rw (← c.cell-w.ensures, ← c.cell-start.ensures, ← c.cell-n.ensures, ← c.behind.ensures, ← e) c.node_in.ensures
