@@ -32,7 +32,7 @@ use lir::{
 
 // Where the texts of instructions and of storages go on, how many there are, the next storage's and temporary's numbers, and the node
 // whose own step it is.
-#[derive(Drop)]
+#[derive(Clone, Copy)]
 pub struct Counters {
     pub at: usize,
     pub instructions: u64,

@@ -22,7 +22,7 @@ use tables::{Counts, TypeKind};
 use values::{Listed, Lowered, Repr, State, Value};
 
 // The node whose own step it is.
-#[derive(Drop)]
+#[derive(Clone, Copy)]
 pub struct At {
     pub line: u64,
     pub node: NodeId,
@@ -39,7 +39,7 @@ pub enum Leaf {
 }
 
 // The types of an aggregate's parts: an array's, all one; or a struct's and a tuple's, from a place in the lists on.
-#[derive(Drop)]
+#[derive(Clone, Copy)]
 pub enum Parts {
     Elements(u64),
     Fields(u64),

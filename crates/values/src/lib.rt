@@ -25,7 +25,7 @@ pub struct Value {
 }
 
 // The counters, and where the stack's free words begin.
-#[derive(Drop)]
+#[derive(Clone, Copy)]
 pub struct State {
     pub counters: Counters,
     pub top: usize,
