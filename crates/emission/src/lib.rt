@@ -247,7 +247,7 @@ pub fn emit_select_byte(
 // ---------------------------------------------------------------- an instruction for each byte
 
 // What is done byte by byte; sums and differences go through a carry. A turn is of the first byte, again and again.
-#[derive(Drop)]
+#[derive(Clone, Copy)]
 pub enum Bytewise {
     Add(Bytes, Bytes, StorageId),
     Subtract(Bytes, Bytes, StorageId),

@@ -20,7 +20,7 @@ pub struct StorageId(pub u64);
 pub struct TemporaryId(pub u64);
 
 // A node's number: its line counted among the nodes, from 0.
-#[derive(Drop)]
+#[derive(Clone, Copy)]
 pub struct NodeId(pub u64);
 
 // A byte of a storage.
@@ -30,13 +30,13 @@ pub struct ByteStorage {
     pub offset: u64,
 }
 
-#[derive(Drop)]
+#[derive(Clone, Copy)]
 pub enum ByteOperand {
     Immediate(u64),
     Storage(ByteStorage),
 }
 
-#[derive(Drop)]
+#[derive(Clone, Copy)]
 pub enum BitOperand {
     Constant(u64),
     Storage(StorageId),
@@ -65,26 +65,26 @@ pub struct Bytes {
 }
 
 // The first `count` bytes of a storage, as destinations.
-#[derive(Drop)]
+#[derive(Clone, Copy)]
 pub struct Destinations {
     pub storage: StorageId,
     pub count: u64,
 }
 
-#[derive(Drop)]
+#[derive(Clone, Copy)]
 pub enum ByteBinaryOp {
     And,
     Or,
     Xor,
 }
 
-#[derive(Drop)]
+#[derive(Clone, Copy)]
 pub enum RotateDirection {
     Left,
     Right,
 }
 
-#[derive(Drop)]
+#[derive(Clone, Copy)]
 pub enum ShiftOp {
     Left,
     RightUnsigned,

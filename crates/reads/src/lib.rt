@@ -2,7 +2,7 @@
 // instruction that fills it.
 #![tactic(auto)]
 
-ghost use Rattle.std.specs.Prelude.{◌≡◌, List, ℕ, ◌+◌, ◌-◌, ◌/◌, ◌≤◌};
+ghost use Rattle.std.specs.Prelude.{◌≡◌, List, ℕ, ◌+◌, ◌-◌, ◌/◌, ◌≤◌, length};
 ghost use Rattle.std.proofs.lemmas.List.Edits.{sets};
 ghost use Rattle.spec.specs.Hir as hir;
 ghost use Rattle.spec.specs.Ticket.{Tables};
@@ -212,7 +212,7 @@ pub fn gathered(ty: u64, n: u64, from: usize, listed: Listed) -> Lowered
 
 // Stores a part's head.
 pub fn store_head(stack: &mut [u64], at: usize, v: Value)
-    requires* { do ⌜ at + 8 ≤ (← ⟦stack.len()⟧) ⌝ }
+    requires { at + 8 ≤ length stack.old }
     ensures { stack.new ≡ sets stack.old at (value_words v) }
 {
     values::store8(stack, at, values::value_words(v));

@@ -26,7 +26,7 @@ pub struct Counts {
 }
 
 // A type's word and numbers. Struct and tuple: where their fields begin in the lists, and how many they are.
-#[derive(Drop)]
+#[derive(Clone, Copy)]
 pub enum TypeKind {
     Unit,
     Bool,
