@@ -723,7 +723,7 @@ pub fn shift_bytes(
 // ---------------------------------------------------------------- operators, form by form
 
 // A bits type's width, as `integer_width` finds it.
-#[derive(Drop)]
+#[derive(Clone, Copy)]
 pub enum Width {
     Absent,
     Found(u64),
