@@ -1,4 +1,4 @@
-// The entry for programs in C and Rust: `compiler::lower_in` with its answer in numbers. rust/wesknuft-lower has the header and a safe crate.
+// `compiler::lower_in` with its answer in numbers, for programs in C and Rust: crates/wesknuft_c exports it.
 #![tactic(auto)]
 
 ghost use Rattle.std.specs.Prelude.{length};
@@ -10,8 +10,7 @@ use compiler::Tried;
 
 // 1 where the ticket is accepted: then `size` is the listing's length; 0 where it is refused: then `number` and `line` are the refusal's; 2 where
 // the words lent are too few. What does not apply is 0.
-#[unsafe(no_mangle)]
-pub extern "C" fn wesknuft_lower_in(
+pub fn wesknuft_lower_in(
     ticket: &[u8],
     buffer: &mut [u8],
     rows: &mut [u64],
