@@ -15,7 +15,7 @@ fn main() {
     let library = folder.join(LIBRARY);
     if !library.is_file() {
         eprintln!("The static library is missing: {}", library.display());
-        eprintln!("Make it with `rt staticlib wesknuft` at the repository's root,");
+        eprintln!("Make it with `rt lib` in crates/wesknuft_c and copy it there from out/libwesknuft_c.a,");
         eprintln!("or set WESKNUFT_LIB to the folder that holds {LIBRARY}");
         eprintln!("(an absolute path, or one from the folder rust/).");
         exit(1);

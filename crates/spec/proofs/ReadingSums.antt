@@ -12,7 +12,7 @@ use lib.ListN.{length, get_or-append, length-append}
 use Rattle.spec.specs.Limits.{size_sum_limit, weight_sum_limit, depth_limit}
 use Rattle.spec.specs.Ticket.{NodeWord, NodeLine, TypeLine, no_type, arg}
 use Rattle.spec.specs.Forms.{type, Arg, Head, f_line, s_line, v_line, g_line, t_line, p_line, n_line, Line, values}
-use Rattle.spec.specs.Read.{Reading, refusal_of, depth_of, add_line, add, once, mark}
+use Rattle.spec.specs.Read.{Reading, refusal_of, depth_of, add_line, add, mark}
 use Rattle.spec.specs.Readable.{All, line_sum}
 use Rattle.spec.proofs.ReadingLists.{All_map, All_append}
 use Rattle.spec.proofs.Bools.{and_left, and_right}

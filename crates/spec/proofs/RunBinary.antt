@@ -12,7 +12,7 @@ use lib.ListN.{length}
 use Rattle.spec.specs.Hir.{IntegerBinaryOp}
 use Rattle.spec.specs.Hir as hir
 use Rattle.spec.specs.Ticket.{Tables}
-use Rattle.spec.specs.Lir.{ByteOperand, ByteBinaryOp, RotateDirection, ShiftOp, IntegerBinaryBytesOp, InstructionKind, add, subtract, shift_bytes, value, bytes_value}
+use Rattle.spec.specs.Lir.{ByteOperand, ByteBinaryOp, RotateDirection, ShiftOp, IntegerBinaryBytesOp, InstructionKind, shift_bytes, value, bytes_value}
 use Rattle.spec.specs.Operands.{value_bytes, all_immediate, lowest_byte}
 use Rattle.spec.specs.Allocation.{bytes_from}
 use Rattle.spec.specs.Operators.{BinaryForm, adding, subtracting, bytewise, shifting, whole, binary_form, rotate_direction}

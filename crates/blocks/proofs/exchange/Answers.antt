@@ -1,5 +1,4 @@
 -- The definition, step by step.
-use borrow.Author.Rules.{rules}
 use Rattle.blocks.specs.Words.{apart, exchanged}
 use mathlib.Core.Path.{refl}
 use Rattle.blocks.proofs.exchange.Goals as goal

@@ -1,5 +1,4 @@
 -- The table is right by one computed test of all its entries; the lengths decide the rest.
-use borrow.Author.Rules.{rules}
 use mathlib.Core.Path.{refl}
 use Rattle.blocks.specs.Blocks.{bit, packed, mirrored, all_mirrored}
 use Rattle.blocks.proofs.Mirroring.{table_mirrors, length_mirrored}

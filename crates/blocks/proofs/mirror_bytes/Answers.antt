@@ -1,10 +1,8 @@
 -- The invariant: the first k bytes are mirrored, those behind them as before.
 use native.Mathlib.Omega.{arith}
-use Rattle.blocks.proofs.Filling.{Filled, filled_none, filled_more, filled_all}
-use lib.ListN.{length, get_or}
-use Prim.Native.Nat.{◌-◌}
+use Rattle.blocks.proofs.Filling.{filled_none, filled_more, filled_all}
+use lib.ListN.{get_or}
 use mathlib.Core.Path.{sym, ◌∙◌}
-use Rattle.blocks.specs.Blocks.{all_mirrored}
 use Rattle.blocks.proofs.Mirroring.{length_mirrored, mirrored_at}
 use Rattle.blocks.proofs.mirror_bytes.Goals as goal
 

@@ -1,7 +1,6 @@
 -- The invariant: the bytes from i on are in the word.
 use native.Mathlib.Omega.{arith}
-use borrow.Author.Rules.{rules}
-use Rattle.blocks.proofs.Words.{Read, read_none, read_more, read_all, read_fits, inside}
+use Rattle.blocks.proofs.Words.{read_none, read_more, read_all, read_fits, inside}
 use lib.ListN.{length}
 use Prim.Native.Nat.{ℕ, ◌-◌}
 use Rattle.blocks.proofs.read_word.Goals as goal

@@ -1,8 +1,4 @@
-use native.Mathlib.Omega.{arith}
-use borrow.Author.Rules.{rules}
-use Rattle.blocks.proofs.Words.{Read, read_none, read_more, read_all, read_fits, inside}
-use lib.ListN.{length}
-use Prim.Native.Nat.{ℕ, ◌-◌}
+use Rattle.blocks.proofs.Words.{Read}
 use Rattle.blocks.proofs.read_word.Given as goal
 
 abbrev pub invariant-loop-i : goal.invariant-loop-i

@@ -1,11 +1,8 @@
 -- The invariant: the bytes of the first t squares are transposed back, all others as before.
 use native.Mathlib.Omega.{arith}
-use borrow.Author.Rules.{rules}
-use Rattle.blocks.proofs.Squares.{Squares, squares_none, squares_all}
-use Rattle.blocks.proofs.Directions.{of_days, days_more}
-use lib.ListN.{length}
-use Prim.Native.Nat.{ℕ, ◌-◌, ◌/◌}
-use Rattle.blocks.specs.Blocks.{transposed_back}
+use Rattle.blocks.proofs.Squares.{squares_none, squares_all}
+use Rattle.blocks.proofs.Directions.{days_more}
+use Prim.Native.Nat.{ℕ}
 use Rattle.blocks.proofs.Inverse.{length_transposed_back}
 use Rattle.blocks.proofs.restore_blocks.Goals as goal
 

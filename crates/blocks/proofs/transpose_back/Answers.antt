@@ -1,5 +1,4 @@
 -- The lengths decide, and the blocks are transposed back.
-use borrow.Author.Rules.{rules}
 use Rattle.blocks.specs.Blocks.{transposed_back}
 use Rattle.blocks.proofs.Inverse.{length_transposed_back}
 use Rattle.blocks.proofs.Answering.{judged_whole, judged_room, answers_refused, answers_accepted}

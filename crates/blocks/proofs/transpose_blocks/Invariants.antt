@@ -1,11 +1,8 @@
-use native.Mathlib.Omega.{arith}
-use borrow.Author.Rules.{rules}
-use Rattle.blocks.proofs.Squares.{Squares, squares_none, squares_all}
-use Rattle.blocks.proofs.Directions.{of_valves, valves_more}
+use Rattle.blocks.proofs.Squares.{Squares}
+use Rattle.blocks.proofs.Directions.{of_valves}
 use lib.ListN.{length}
-use Prim.Native.Nat.{ℕ, ◌-◌, ◌/◌}
+use Prim.Native.Nat.{◌-◌, ◌/◌}
 use Rattle.blocks.specs.Blocks.{transposed}
-use Rattle.blocks.proofs.Inverse.{length_transposed}
 use Rattle.blocks.proofs.transpose_blocks.Given as goal
 
 abbrev pub invariant-loop-t : goal.invariant-loop-t

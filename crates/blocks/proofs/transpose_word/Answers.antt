@@ -1,5 +1,4 @@
 -- The three exchanges of the definition.
-use borrow.Author.Rules.{rules}
 use Rattle.blocks.specs.Words.{transposed_word}
 use Rattle.blocks.proofs.transpose_word.Goals as goal
 

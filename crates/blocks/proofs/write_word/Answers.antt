@@ -1,9 +1,7 @@
 -- The invariant: the first i bytes of the word are in their places, all others as before.
 use native.Mathlib.Omega.{arith}
-use Rattle.blocks.specs.Words.{Spread}
 use Rattle.blocks.proofs.Words.{spread_none, spread_more, inside}
 use lib.ListN.{length}
-use Prim.Native.Nat.{◌-◌, ◌≤◌}
 use mathlib.Core.Path.{refl, ◌≡◌}
 use Rattle.blocks.proofs.write_word.Goals as goal
 

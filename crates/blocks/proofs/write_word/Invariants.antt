@@ -1,9 +1,5 @@
-use native.Mathlib.Omega.{arith}
 use Rattle.blocks.specs.Words.{Spread}
-use Rattle.blocks.proofs.Words.{spread_none, spread_more, inside}
-use lib.ListN.{length}
 use Prim.Native.Nat.{◌-◌, ◌≤◌}
-use mathlib.Core.Path.{refl, ◌≡◌}
 use Rattle.blocks.proofs.write_word.Given as goal
 
 abbrev pub invariant-loop-i : goal.invariant-loop-i

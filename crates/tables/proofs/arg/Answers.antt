@@ -1,5 +1,4 @@
 -- `tables::arg` meets its contract: the count is looked at first.
-use borrow.Author.Rules.{rules}
 use mathlib.Core.Path.{sym, ◌∙◌}
 use Rattle.tables.proofs.Laws.{arg_in, arg_out}
 use Rattle.tables.proofs.arg.Goals as goal

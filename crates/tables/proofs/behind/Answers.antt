@@ -1,5 +1,4 @@
 -- `tables::behind` meets its contract: the test is the definition's.
-use borrow.Author.Rules.{rules}
 use borrow.Author.Tests.{lt-ltb, le-ltb}
 use Rattle.tables.specs.Tables.{behind}
 use Rattle.tables.proofs.behind.Goals as goal

@@ -1,5 +1,4 @@
 -- `tables::cell` meets its contract: a row's place is small, and past the last row the default stands.
-use borrow.Author.Rules.{rules}
 use mathlib.Core.Path.{sym, ◌∙◌}
 use Rattle.tables.proofs.Laws.{cell_in, cell_out}
 use Rattle.tables.proofs.cell.Goals as goal

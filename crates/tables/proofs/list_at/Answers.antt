@@ -1,5 +1,4 @@
 -- `tables::list_at` meets its contract: where it stops early, the sum is past the end.
-use borrow.Author.Rules.{rules}
 use lib.ListN.{length, get_or-eq_default}
 use mathlib.Core.Path.{sym}
 use Prim.Native.Nat.{◌+◌, ◌≤◌}

@@ -1,6 +1,4 @@
 -- `tables::node_at` meets its contract: the three cells are the definition's, and the numbers behind TYPE are one less.
-use borrow.Author.Rules.{rules}
-use mathlib.Core.Logic.{⊎_elim}
 use mathlib.Core.Path.{◌≡◌}
 use Prim.Native.Nat.{◌-◌}
 use native.Mathlib.Omega.{arith}

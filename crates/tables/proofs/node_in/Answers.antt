@@ -1,5 +1,4 @@
 -- `tables::node_in` meets its contract: the three numbers are the definition's.
-use borrow.Author.Rules.{rules}
 use Rattle.tables.specs.Tables.{node_kind_in}
 use Rattle.tables.proofs.node_in.Goals as goal
 

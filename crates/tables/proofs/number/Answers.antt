@@ -1,5 +1,4 @@
 -- `tables::number` meets its contract: the two cells are the definition's.
-use borrow.Author.Rules.{rules}
 use Rattle.tables.specs.Tables.{numbers_at}
 use Rattle.tables.proofs.number.Goals as goal
 

@@ -1,5 +1,4 @@
 -- `tables::place_at` meets its contract: the cell and the two numbers are the definition's.
-use borrow.Author.Rules.{rules}
 use Rattle.tables.specs.Tables.{place_kind_at}
 use Rattle.tables.proofs.place_at.Goals as goal
 

@@ -1,5 +1,4 @@
 -- `tables::placed_in` meets its contract: the four numbers are the definition's.
-use borrow.Author.Rules.{rules}
 use Rattle.tables.proofs.placed_in.Goals as goal
 
 pub returns : goal.returns

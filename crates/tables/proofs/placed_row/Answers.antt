@@ -1,5 +1,4 @@
 -- `tables::placed_row` meets its contract: the test is the definition's, and so are the two cells.
-use borrow.Author.Rules.{rules}
 use borrow.Author.Tests.{lt-ltb, le-ltb}
 use Rattle.tables.specs.Tables.{numbers_at, placed_at}
 use Rattle.tables.proofs.placed_row.Goals as goal

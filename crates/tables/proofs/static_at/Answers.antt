@@ -1,5 +1,4 @@
 -- `tables::static_at` meets its contract: a row is there just where the list has an element.
-use borrow.Author.Rules.{rules}
 use Rattle.tables.proofs.Laws.{nth_placed}
 use Rattle.tables.proofs.static_at.Goals as goal
 

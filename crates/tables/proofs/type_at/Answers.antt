@@ -1,5 +1,4 @@
 -- `tables::type_at` meets its contract: the three cells are the definition's.
-use borrow.Author.Rules.{rules}
 use Rattle.tables.specs.Tables.{type_kind_at}
 use Rattle.tables.proofs.type_at.Goals as goal
 

@@ -1,5 +1,4 @@
 -- `tables::type_in` meets its contract: the two numbers are the definition's.
-use borrow.Author.Rules.{rules}
 use Rattle.tables.specs.Tables.{type_kind_in}
 use Rattle.tables.proofs.type_in.Goals as goal
 

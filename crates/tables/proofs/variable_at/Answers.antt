@@ -1,5 +1,4 @@
 -- `tables::variable_at` meets its contract: a row is there just where the list has an element.
-use borrow.Author.Rules.{rules}
 use Rattle.tables.proofs.Laws.{nth_placed}
 use Rattle.tables.proofs.variable_at.Goals as goal
 

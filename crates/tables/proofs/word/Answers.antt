@@ -1,5 +1,4 @@
 -- `tables::word` meets its contract: past the end the list's default stands.
-use borrow.Author.Rules.{rules}
 use lib.ListN.{get_or-eq_default}
 use mathlib.Core.Path.{sym}
 use Rattle.tables.proofs.word.Goals as goal

@@ -1,8 +1,6 @@
 -- The measure is the number itself; from four digits on a digit is put behind those of n / 10.
-use Prim.Native.Nat.{ℕ, ◌<◌}
 use native.Mathlib.Omega.{arith}
 use borrow.Author.Rules.{rules}
-use mathlib.Core.Path.{◌∙◌}
 use Rattle.text.proofs.Printing.{number_one, number_more}
 use Rattle.text.proofs.+print_number.Goals as goal
 

@@ -1,8 +1,6 @@
 -- The invariant: the bytes before i are copied.
-use Prim.Native.Nat.{◌-◌}
 use native.Mathlib.Omega.{arith}
-use lib.ListN.{length}
-use Rattle.text.proofs.Copying.{Copied, copied_none, copied_more, copied_all}
+use Rattle.text.proofs.Copying.{copied_none, copied_more, copied_all}
 use Rattle.text.proofs.copy_in.Goals as goal
 
 pub loop-i-init : goal.loop-i-init

@@ -1,10 +1,6 @@
 -- The invariant: the digits passed, worth value, and the rest of the field make the number.
-use mathlib.Core.Path.{◌≡◌}
-use Prim.Native.Nat.{◌≤◌, ◌-◌, ◌<◌, ◌^◌}
-use lib.ListN.{length}
 use borrow.Author.Rules.{rules}
-use Rattle.text.proofs.Positions.{from, positions}
-use Rattle.text.specs.Field.{number_at}
+use Rattle.text.proofs.Positions.{positions}
 use Rattle.text.proofs.number.Goals as goal
 
 pub returns-then-text-at : goal.returns-then-text-at

@@ -1,8 +1,7 @@
 use mathlib.Core.Path.{◌≡◌}
 use Prim.Native.Nat.{◌≤◌, ◌-◌, ◌<◌, ◌^◌}
 use lib.ListN.{length}
-use borrow.Author.Rules.{rules}
-use Rattle.text.proofs.Positions.{from, positions}
+use Rattle.text.proofs.Positions.{from}
 use Rattle.text.specs.Field.{number_at}
 use Rattle.text.proofs.number.Given as goal
 

@@ -1,5 +1,4 @@
 -- A block copy where there is room for all of w, else byte by byte.
-use borrow.Author.Rules.{rules}
 use native.Mathlib.Omega.{arith}
 use borrow.Author.Tests.{le-leb}
 use Rattle.text.proofs.Copying.{room_for, middle_put}

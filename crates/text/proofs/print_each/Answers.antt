@@ -1,10 +1,7 @@
 -- The invariant: the first i bytes of w are put.
-use mathlib.Core.Path.{◌≡◌, refl, ◌∙◌}
-use Prim.Native.Nat.{◌≤◌, ◌-◌}
-use lib.ListN.{length, take}
-use borrow.Author.Rules.{rules}
+use mathlib.Core.Path.{refl, ◌∙◌}
 use native.Mathlib.Omega.{arith}
-use Rattle.text.specs.Put.{Put, none, bytes_more, bytes_all}
+use Rattle.text.specs.Put.{none, bytes_more, bytes_all}
 use Rattle.text.proofs.print_each.Goals as goal
 
 pub loop-i-init : goal.loop-i-init

@@ -1,9 +1,7 @@
-use mathlib.Core.Path.{◌≡◌, refl, ◌∙◌}
+use mathlib.Core.Path.{◌≡◌}
 use Prim.Native.Nat.{◌≤◌, ◌-◌}
 use lib.ListN.{length, take}
-use borrow.Author.Rules.{rules}
-use native.Mathlib.Omega.{arith}
-use Rattle.text.specs.Put.{Put, none, bytes_more, bytes_all}
+use Rattle.text.specs.Put.{Put}
 use Rattle.text.proofs.print_each.Given as goal
 
 abbrev pub invariant-loop-i : goal.invariant-loop-i

@@ -1,5 +1,4 @@
 -- Three digits, one behind another.
-use borrow.Author.Rules.{rules}
 use Rattle.text.proofs.Printing.{number_three}
 use Rattle.text.proofs.print_three.Goals as goal
 

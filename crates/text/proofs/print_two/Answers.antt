@@ -1,5 +1,4 @@
 -- One digit, and the other behind it.
-use borrow.Author.Rules.{rules}
 use Rattle.text.proofs.Printing.{number_two}
 use Rattle.text.proofs.print_two.Goals as goal
 

@@ -1,5 +1,4 @@
 -- One byte put, by where it goes.
-use borrow.Author.Rules.{rules}
 use native.Mathlib.Omega.{arith}
 use Rattle.text.specs.Put.{one_in, one_behind, one_at_last}
 use Rattle.text.proofs.put.Goals as goal

@@ -1,5 +1,4 @@
 -- `numerics::arithmetic::ineg` meets its contract: a negation is a difference from 0, at any width.
-use Rattle.std.proofs.Common.{rules}
 use Rattle.numerics.specs.Numerics.{isub, ineg}
 use Rattle.numerics.specs.Functions.{unary_at, binary_at}
 use Rattle.numerics.proofs.Modulo.{zero_less}

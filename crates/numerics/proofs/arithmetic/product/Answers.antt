@@ -1,5 +1,5 @@
 -- `numerics::arithmetic::product` meets its contract: the product by halves, modulo 2 ^ 64.
-use Rattle.std.proofs.Common.{ℕ, ◌*◌, ◌%◌, ◌^◌, refl, ◌∙◌, ap₂, div-add-mod', arith, rules}
+use Rattle.std.proofs.Common.{ℕ, ◌*◌, ◌%◌, ◌^◌, refl, ◌∙◌, ap₂, div-add-mod', arith}
 use Rattle.numerics.proofs.Modulo.{product_lt, halves}
 use Rattle.numerics.proofs.arithmetic.product.Goals as goal
 

@@ -1,5 +1,4 @@
 -- `numerics::arithmetic::signed_quotient` meets its contract: the quotient of the sizes, with the sign that the signs give; undefined at 2 ^ (N - 1).
-use Rattle.std.proofs.Common.{rules}
 use Rattle.numerics.proofs.Reading.{size_pos}
 use Rattle.numerics.proofs.Quotients.{quotient_over, quotient_same, quotient_other}
 use Rattle.numerics.proofs.arithmetic.signed_quotient.Goals as goal

@@ -1,5 +1,4 @@
 -- `numerics::arithmetic::signed_remainder` meets its contract: the remainder of the sizes, with the dividend's sign.
-use Rattle.std.proofs.Common.{rules}
 use Rattle.numerics.proofs.Reading.{size_pos}
 use Rattle.numerics.proofs.Quotients.{remainder_low, remainder_high}
 use Rattle.numerics.proofs.arithmetic.signed_remainder.Goals as goal

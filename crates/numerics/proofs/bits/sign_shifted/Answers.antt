@@ -1,5 +1,5 @@
 -- `numerics::bits::sign_shifted` meets its contract: the sign's copies are added where the sign bit is set, and do not overlap what is left.
-use Rattle.std.proofs.Common.{div-le_self, rules}
+use Rattle.std.proofs.Common.{div-le_self}
 use Rattle.numerics.proofs.Moves.{sign_shifted_fits, sign_shifted_low, sign_shifted_high}
 use Rattle.numerics.proofs.bits.sign_shifted.Goals as goal
 

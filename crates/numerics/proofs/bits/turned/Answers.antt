@@ -1,5 +1,5 @@
 -- `numerics::bits::turned` meets its contract: both parts of the rotated number, which together stay below 2 ^ N.
-use Rattle.std.proofs.Common.{refl, rules}
+use Rattle.std.proofs.Common.{refl}
 use Rattle.numerics.proofs.Moves.{rotated_fits, rotated_is}
 use Rattle.numerics.proofs.bits.turned.Goals as goal
 

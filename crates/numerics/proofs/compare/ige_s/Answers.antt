@@ -1,5 +1,4 @@
 -- `numerics::compare::ige_s` meets its contract: `ile_s` with the operands changed over, at any width.
-use Rattle.std.proofs.Common.{rules}
 use Rattle.numerics.specs.Numerics.{ige_s, ile_s}
 use Rattle.numerics.specs.Functions.{binary_at}
 use Rattle.numerics.proofs.compare.ige_s.Goals as goal

@@ -1,5 +1,4 @@
 -- `numerics::compare::ige_u` meets its contract: `ile_u` with the operands changed over, at any width.
-use Rattle.std.proofs.Common.{rules}
 use Rattle.numerics.specs.Numerics.{ige_u, ile_u}
 use Rattle.numerics.specs.Functions.{binary_at}
 use Rattle.numerics.proofs.compare.ige_u.Goals as goal

@@ -1,5 +1,4 @@
 -- `numerics::compare::igt_u` meets its contract: `ilt_u` with the operands changed over, at any width.
-use Rattle.std.proofs.Common.{rules}
 use Rattle.numerics.specs.Numerics.{igt_u, ilt_u}
 use Rattle.numerics.specs.Functions.{binary_at}
 use Rattle.numerics.proofs.compare.igt_u.Goals as goal

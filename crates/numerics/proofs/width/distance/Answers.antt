@@ -1,5 +1,5 @@
 -- `numerics::width::distance` meets its contract: a number below the width is its own remainder.
-use Rattle.std.proofs.Common.{sym, mod-eq_of_lt, rules}
+use Rattle.std.proofs.Common.{sym, mod-eq_of_lt}
 use Rattle.numerics.proofs.width.distance.Goals as goal
 
 pub returns-then-k-n : goal.returns-then-k-n

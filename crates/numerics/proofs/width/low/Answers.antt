@@ -1,5 +1,4 @@
 -- `numerics::width::low` meets its contract: masking with N set bits is taking the number modulo 2 ^ N.
-use Rattle.std.proofs.Common.{rules}
 use lib.Bits.{and_mask}
 use Rattle.numerics.proofs.width.low.Goals as goal
 

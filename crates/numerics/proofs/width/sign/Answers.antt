@@ -1,5 +1,4 @@
 -- `numerics::width::sign` meets its contract: the highest of N bits is the sign of the signed reading.
-use Rattle.std.proofs.Common.{rules}
 use Rattle.numerics.proofs.Reading.{sign_is}
 use Rattle.numerics.proofs.width.sign.Goals as goal
 

@@ -1,5 +1,5 @@
 -- `numerics::width::size` meets its contract: the reading's size, from its two cases.
-use Rattle.std.proofs.Common.{◌-◌, arith, pow_pos, rules}
+use Rattle.std.proofs.Common.{◌-◌, arith, pow_pos}
 use Rattle.numerics.proofs.Reading.{size_low, size_high}
 use Rattle.numerics.proofs.Modulo.{pow_fits, half_twice}
 use Rattle.numerics.proofs.width.size.Goals as goal
