@@ -87,6 +87,7 @@ module _ (dir : lir.RotateDirection) (d : lir.ByteStorage) (x : lir.ByteOperand)
 pub first_from : (s n : ℕ) → 0 < n → first_storage (bytes_from s 0 n) ≡ spot s 0
 unfolding first_storage bytes_from
 first_from s (suc n) h = refl
+first_from s Prim.Native.Nat.zero h = elim h [ ]
 
 middle : (a b c d : Bool) → (a && b && c && d) ≡ true → (b ≡ true) × (c ≡ true)
 middle true true true d h = (refl, refl)

@@ -37,6 +37,7 @@ lowest_empty b e = rw e
 first_tab : (f : ℕ → ByteOperand) (n : ℕ) → 0 < n → get_or (tab f 0 n) 0 (immediate 0) ≡ f 0
 unfolding tab
 first_tab f (suc n) h = refl
+first_tab f zero h = elim h [ ]
 
 pub first_byte : (b : Bytes) → 0 < b.total → first_operand (bytes_of b) ≡ byte_at b 0
 unfolding bytes_of first_operand
@@ -50,6 +51,7 @@ lowest_of (stored s) xs = refl
 lowest_tab : (f : ℕ → ByteOperand) (n : ℕ) → 0 < n → lowest_byte (tab f 0 n) ≡ number_of (f 0)
 unfolding tab
 lowest_tab f (suc n) h = lowest_of (f 0) (tab f 1 n)
+lowest_tab f zero h = elim h [ ]
 
 pub lowest_first : (b : Bytes) → 0 < b.total → lowest_byte (bytes_of b) ≡ number_of (byte_at b 0)
 unfolding bytes_of
@@ -71,6 +73,7 @@ not_tab f (suc n) h e = not_more (f 0) (tab f 1 n) e
     not_more : (x : ByteOperand) (xs : List ByteOperand) → is_immediate x ≡ false → all_immediate (x ∷ xs) ≡ false
     not_more (immediate n) xs h = cc
     not_more (stored s) xs h = refl
+not_tab f zero h e = elim h [ ]
 
 either_immediate : (t : Bool) (n m : ℕ) → is_immediate (pick t (immediate n) (immediate m)) ≡ true
 either_immediate true n m = refl

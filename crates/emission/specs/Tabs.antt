@@ -86,6 +86,8 @@ masks_from k s i (suc n) = let e : i + suc n ≡ suc i + n = omega arith in rw e
 
 pub masks_last : (k s n : ℕ) → 0 < k → 0 < n → masks k (bytes_from s 0 n) ≡ mask k (spot s (n - 1)) ∷ []
 masks_last (suc k) s (suc n) h g = let e : suc n - 1 ≡ 0 + n = omega arith in rw e (masks_from k s 0 n)
+masks_last zero s n h g = elim h [ ]
+masks_last (suc k) s zero h g = elim g [ ]
 
 pub masks_whole : (ds : List ByteStorage) → masks 0 ds ≡ []
 unfolding masks

@@ -32,7 +32,7 @@ use lir::{
 
 // Where the texts of instructions and of storages go on, how many there are, the next storage's and temporary's numbers, and the node
 // whose own step it is.
-#[derive(Drop)]
+#[derive(Clone, Copy)]
 pub struct Counters {
     pub at: usize,
     pub instructions: u64,
@@ -247,7 +247,7 @@ pub fn emit_select_byte(
 // ---------------------------------------------------------------- an instruction for each byte
 
 // What is done byte by byte; sums and differences go through a carry. A turn is of the first byte, again and again.
-#[derive(Drop)]
+#[derive(Clone, Copy)]
 pub enum Bytewise {
     Add(Bytes, Bytes, StorageId),
     Subtract(Bytes, Bytes, StorageId),
@@ -723,7 +723,7 @@ pub fn shift_bytes(
 // ---------------------------------------------------------------- operators, form by form
 
 // A bits type's width, as `integer_width` finds it.
-#[derive(Drop)]
+#[derive(Clone, Copy)]
 pub enum Width {
     Absent,
     Found(u64),

@@ -23,7 +23,7 @@ pub enum Answer {
 }
 
 // What is kept of a column of numbers.
-#[derive(Drop)]
+#[derive(Clone, Copy)]
 pub struct Totals {
     pub count: u64,
     pub least: u64,
@@ -32,7 +32,7 @@ pub struct Totals {
     pub squares: u64,
 }
 
-#[derive(Drop)]
+#[derive(Clone, Copy)]
 pub struct Columns {
     pub instructions: Totals,
     pub storages: Totals,

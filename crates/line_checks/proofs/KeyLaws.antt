@@ -1,6 +1,6 @@
 -- Keys of types: what their words say, and what keeps them.
 use mathlib.Core.Path.{◌≡◌, refl, sym, ap, ◌∙◌}
-use mathlib.Core.Bool.{Bool, true, false, not}
+use mathlib.Core.Bool.{Bool, true, false}
 use mathlib.Core.List.{List, ◌∷◌, []}
 use mathlib.Core.Logic.{⊎_elim}
 use Prim.Native.Nat.{ℕ, zero, suc, ◌+◌, ◌-◌, ◌*◌, ◌/◌, ◌%◌, ◌≤◌, ◌<◌}
@@ -9,7 +9,7 @@ use native.Mathlib.Nat.{add-zero, mod-lt, eq-or-lt_of_le, le_of_suc-le-suc}
 use lib.Dec.{eqb, leb, lit<}
 use lib.ListN.{length, get_or, set, length-set}
 use lib.Seq.{get_or-set_same, get_or-set_other}
-use borrow.Author.Tests.{leb-false, le-leb, lt-leb, eqb-true, eqb-false, eq-eqb, ne_eqb, not-true}
+use borrow.Author.Tests.{leb-false, le-leb, lt-leb, eqb-true, eqb-false, eq-eqb, ne_eqb}
 use Rattle.spec.specs.Limits.{type_lines}
 use Rattle.spec.specs.Text.{same}
 use Rattle.spec.specs.Read.{alike, type_number}
@@ -279,6 +279,6 @@ module _ (ws ls : List ℕ) (word n : ℕ) (xs : List ℕ) (i : Keyed ws ls n) (
   unlike_all = unlike_rows 0 n (omega arith)
 
 -- as the code finds it
-pub unlike_known : (ws ls : List ℕ) (word n w : ℕ) (xs : List ℕ) (b : Bool) → Keyed ws ls n → w ≡ type_number (type_word_by word) → b ≡ has_key ws (key_of w xs) → not b ≡ true
+pub unlike_known : (ws ls : List ℕ) (word n w : ℕ) (xs : List ℕ) (b : Bool) → Keyed ws ls n → w ≡ type_number (type_word_by word) → b ≡ has_key ws (key_of w xs) → b ≡ false
     → false ≡ alike (type_word_by word) xs (section (type_row ls) ws 0 n)
-unlike_known ws ls word n w xs b i e g h = sym (unlike_all ws ls word n xs i (rw (← e, ← g) (not-true b h)))
+unlike_known ws ls word n w xs b i e g h = sym (unlike_all ws ls word n xs i (rw (← e, ← g) h))

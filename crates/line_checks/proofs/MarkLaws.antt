@@ -1,11 +1,10 @@
 -- Marks and depths together, from number to number.
 use mathlib.Core.Path.{◌≡◌, refl, sym, ap, ◌∙◌}
-use mathlib.Core.Bool.{Bool, true, false, not}
+use mathlib.Core.Bool.{Bool, true, false}
 use mathlib.Core.List.{List}
 use Prim.Native.Nat.{ℕ, ◌+◌, ◌-◌, ◌≤◌, ◌<◌, max}
 use native.Mathlib.Omega.{arith}
 use lib.ListN.{length}
-use borrow.Author.Tests.{not-true, not-false}
 use Rattle.tables.specs.Tables.{tab}
 use Rattle.tables.specs.declared.Counts.{Counts}
 use Rattle.spec.specs.Forms.{Field, Arg}
@@ -28,11 +27,11 @@ pub not_deep : (d : ℕ) → Twice ≡ Deep d → ⊥
 not_deep d g = let z : ◌≡◌ {A = ℕ} 0 1 = cc in omega arith
 
 module _ (u t : List ℕ) (c : Counts) (f : Field) (x most : ℕ) (r : Bool) (m : Marking u t c f x r) where
-  pub mark_twice : not r ≡ true → MarkedOne u t c f x most Twice
-  mark_twice h = record { marking = rw (not-true r h) at m; deep = λ d g. absurd (not_deep d g) }
+  pub mark_twice : r ≡ false → MarkedOne u t c f x most Twice
+  mark_twice h = record { marking = rw h at m; deep = λ d g. absurd (not_deep d g) }
 
-  pub mark_deep : not r ≡ false → (d : ℕ) → d ≡ max most (depth_in t c f x) → MarkedOne u t c f x most (Deep d)
-  mark_deep h d e = record { marking = rw (not-false r h) at m; deep = λ k g. sym (same_deep d k g) ∙ e }
+  pub mark_deep : r ≡ true → (d : ℕ) → d ≡ max most (depth_in t c f x) → MarkedOne u t c f x most (Deep d)
+  mark_deep h d e = record { marking = rw h at m; deep = λ k g. sym (same_deep d k g) ∙ e }
 
 -- ---------------------------------------------------------------- a loop over numbers
 

@@ -21,7 +21,7 @@ pub enum Verdict {
 }
 
 // Whether numbers are within their ranges, and are earlier lines' numbers where they name lines.
-#[derive(Drop)]
+#[derive(Clone, Copy)]
 pub struct Seen {
     pub ranged: bool,
     pub earlier: bool,

@@ -11,7 +11,7 @@ ghost use Rattle.line_forms.specs.Classes.{field_of, lettered, class_at, counted
 use fields::{Cursor, Decimal, Keyword, Listed};
 
 // Kinds of lines, in their order.
-#[derive(Drop)]
+#[derive(Clone, Copy)]
 pub enum LineKind {
     Functions,
     Types,
@@ -23,7 +23,7 @@ pub enum LineKind {
 }
 
 // What a field holds: a number in a range, a float's width, or an earlier line's number.
-#[derive(Drop)]
+#[derive(Clone, Copy)]
 pub enum Class {
     Between(u64, u64),
     FloatWidth,
@@ -35,7 +35,7 @@ pub enum Class {
 }
 
 // A line's kind, its word's number and how many numbers it has. They stand behind the used part of the lists.
-#[derive(Drop)]
+#[derive(Clone, Copy)]
 pub struct Form {
     pub kind: LineKind,
     pub word: u64,

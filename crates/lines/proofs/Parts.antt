@@ -107,10 +107,10 @@ module _ (ticket listing x : Bor (List ℕ)) (y : Answer) (a b : ℕ) where
   handed_ticket d e g h = record { part = rw d.is (part ticket x y of_ticket a b d e g h); number = rw d.is; line = refl }
 
   pub handed_listing : Answered y of_listing listing.now a b → x.now ≡ take (b - a) (drop a listing.now) → x.ref_ptr.0 ≡ listing.ref_ptr.0
-      → x.ptr.1 ≡ a + listing.ptr.1 → Handed y ticket listing x 0 0
+      → x.ref_ptr.1 ≡ a + listing.ref_ptr.1 → Handed y ticket listing x 0 0
   handed_listing d e g h = record { part = rw d.is (part listing x y of_listing a b d e g h); number = rw d.is; line = refl }
 
-  pub handed_none : y ≡ missing → x.now ≡ [] → x.ref_ptr.0 ≡ ticket.ptr.0 → x.ref_ptr.1 ≡ 0 + ticket.ptr.1 → Handed y ticket listing x 34 0
+  pub handed_none : y ≡ missing → x.now ≡ [] → x.ref_ptr.0 ≡ ticket.ref_ptr.0 → x.ref_ptr.1 ≡ 0 + ticket.ref_ptr.1 → Handed y ticket listing x 34 0
   handed_none d e g h =
       record {
         part = rw d (record { bytes = e; within = omega arith; there = e; block = g; offset = h ∙ omega arith });

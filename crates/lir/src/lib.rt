@@ -12,7 +12,7 @@ ghost use Rattle.lir.specs.PutFields.{PutFields, kind_text, node_text};
 ghost use Rattle.lir.specs.Lines.{unit_fields, bit_fields, bytes_fields, aggregate_fields};
 
 // A storage's number.
-#[derive(Drop)]
+#[derive(Clone, Copy)]
 pub struct StorageId(pub u64);
 
 // A temporary's number.
@@ -20,23 +20,23 @@ pub struct StorageId(pub u64);
 pub struct TemporaryId(pub u64);
 
 // A node's number: its line counted among the nodes, from 0.
-#[derive(Drop)]
+#[derive(Clone, Copy)]
 pub struct NodeId(pub u64);
 
 // A byte of a storage.
-#[derive(Drop)]
+#[derive(Clone, Copy)]
 pub struct ByteStorage {
     pub storage: StorageId,
     pub offset: u64,
 }
 
-#[derive(Drop)]
+#[derive(Clone, Copy)]
 pub enum ByteOperand {
     Immediate(u64),
     Storage(ByteStorage),
 }
 
-#[derive(Drop)]
+#[derive(Clone, Copy)]
 pub enum BitOperand {
     Constant(u64),
     Storage(StorageId),
@@ -50,14 +50,14 @@ pub enum Carry {
 }
 
 // Where the bytes of a value come from: a number's, lowest first, or a storage's from a byte on.
-#[derive(Drop)]
+#[derive(Clone, Copy)]
 pub enum Source {
     Constant(u64),
     Storage(ByteStorage),
 }
 
 // `count` bytes of a source, then zero bytes up to `total`.
-#[derive(Drop)]
+#[derive(Clone, Copy)]
 pub struct Bytes {
     pub source: Source,
     pub count: u64,
@@ -65,26 +65,26 @@ pub struct Bytes {
 }
 
 // The first `count` bytes of a storage, as destinations.
-#[derive(Drop)]
+#[derive(Clone, Copy)]
 pub struct Destinations {
     pub storage: StorageId,
     pub count: u64,
 }
 
-#[derive(Drop)]
+#[derive(Clone, Copy)]
 pub enum ByteBinaryOp {
     And,
     Or,
     Xor,
 }
 
-#[derive(Drop)]
+#[derive(Clone, Copy)]
 pub enum RotateDirection {
     Left,
     Right,
 }
 
-#[derive(Drop)]
+#[derive(Clone, Copy)]
 pub enum ShiftOp {
     Left,
     RightUnsigned,
@@ -155,7 +155,7 @@ pub struct Instruction {
     pub node: NodeId,
 }
 
-#[derive(Drop)]
+#[derive(Clone, Copy)]
 pub enum StorageKind {
     Bit,
     Byte,

@@ -2,7 +2,7 @@
 // instruction that fills it.
 #![tactic(auto)]
 
-ghost use Rattle.std.specs.Prelude.{◌≡◌, List, ℕ, ◌+◌, ◌-◌, ◌/◌, ◌≤◌};
+ghost use Rattle.std.specs.Prelude.{◌≡◌, List, ℕ, ◌+◌, ◌-◌, ◌/◌, ◌≤◌, length};
 ghost use Rattle.std.proofs.lemmas.List.Edits.{sets};
 ghost use Rattle.spec.specs.Hir as hir;
 ghost use Rattle.spec.specs.Ticket.{Tables};
@@ -22,7 +22,7 @@ use tables::{Counts, TypeKind};
 use values::{Listed, Lowered, Repr, State, Value};
 
 // The node whose own step it is.
-#[derive(Drop)]
+#[derive(Clone, Copy)]
 pub struct At {
     pub line: u64,
     pub node: NodeId,
@@ -39,7 +39,7 @@ pub enum Leaf {
 }
 
 // The types of an aggregate's parts: an array's, all one; or a struct's and a tuple's, from a place in the lists on.
-#[derive(Drop)]
+#[derive(Clone, Copy)]
 pub enum Parts {
     Elements(u64),
     Fields(u64),
@@ -212,7 +212,7 @@ pub fn gathered(ty: u64, n: u64, from: usize, listed: Listed) -> Lowered
 
 // Stores a part's head.
 pub fn store_head(stack: &mut [u64], at: usize, v: Value)
-    requires* { do ⌜ at + 8 ≤ (← ⟦stack.len()⟧) ⌝ }
+    requires { at + 8 ≤ length stack.old }
     ensures { stack.new ≡ sets stack.old at (value_words v) }
 {
     values::store8(stack, at, values::value_words(v));

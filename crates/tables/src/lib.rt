@@ -8,7 +8,7 @@ ghost use Rattle.spec.specs.Operands.{nth};
 ghost use Rattle.tables.specs.Tables.{cell, run, numbers_at, type_kind, type_kind_in, type_kind_at, size_at, weight_at, owner_at, placed_of, placed_at, variables_of, statics_of, placed_option, place_kind, place_kind_at, node_kind, node_kind_in, node_kind_at, behind, node_type_at, node_line_at, Sized};
 
 // How many lines of each kind there are, the numbers in use of the lists, and the state of reading.
-#[derive(Drop)]
+#[derive(Clone, Copy)]
 pub struct Counts {
     pub function: u64,
     pub next: u64,
@@ -26,7 +26,7 @@ pub struct Counts {
 }
 
 // A type's word and numbers. Struct and tuple: where their fields begin in the lists, and how many they are.
-#[derive(Drop)]
+#[derive(Clone, Copy)]
 pub enum TypeKind {
     Unit,
     Bool,

@@ -5,7 +5,7 @@ use mathlib.Core.List.{List}
 use mathlib.Core.Option.{Option, none, some}
 use Prim.Native.Nat.{ℕ, zero, suc, ◌+◌, ◌≤◌, ◌<◌}
 use lib.Dec.{leb, lit<}
-use borrow.Author.Tests.{le-leb, lt-leb, eqb-false, not-false}
+use borrow.Author.Tests.{le-leb, lt-leb, eqb-false}
 use Rattle.tables.specs.Tables.{pick, row_of, run, storages_from, variables_from, statics_from, places_from}
 use Rattle.spec.specs.Limits.{size_sum_limit, weight_sum_limit}
 use Rattle.spec.specs.Read.{stop, once}
@@ -92,16 +92,16 @@ module _ (ws ls : List ℕ) (c : Counts) (f : Form) (s w d a : ℕ) (e : d ≡ d
 -- ---------------------------------------------------------------- the three before them
 
 module _ (ws ls : List ℕ) (c : Counts) (f : Form) (b : Bool) (p : b ≡ types_in ws ls c f.kind f.word f.count) where
-  pub late_types : not b ≡ true → Judged (late_step ws ls c f) ws ls c f (Turned 5)
+  pub late_types : b ≡ false → Judged (late_step ws ls c f) ws ls c f (Turned 5)
   unfolding late_step with_test
   late_types h = record { answer = by b h p; goes = tt }
     where
-      by : (b : Bool) → not b ≡ true → b ≡ types_in ws ls c f.kind f.word f.count → stop 5 ≡ late_step ws ls c f
+      by : (b : Bool) → b ≡ false → b ≡ types_in ws ls c f.kind f.word f.count → stop 5 ≡ late_step ws ls c f
       by true h q = cc
       by false h q = rw (← q)
 
-  module _ (h : not b ≡ false) (m : Measured) (q : measured_of m ≡ sized_in ws ls c f.kind f.word f.count) where
-    passed : (b : Bool) → not b ≡ false → b ≡ types_in ws ls c f.kind f.word f.count → types_in ws ls c f.kind f.word f.count ≡ true
+  module _ (h : b ≡ true) (m : Measured) (q : measured_of m ≡ sized_in ws ls c f.kind f.word f.count) where
+    passed : (b : Bool) → b ≡ true → b ≡ types_in ws ls c f.kind f.word f.count → types_in ws ls c f.kind f.word f.count ≡ true
     passed true h e = sym e
     passed false h e = cc
 
@@ -110,11 +110,11 @@ module _ (ws ls : List ℕ) (c : Counts) (f : Form) (b : Bool) (p : b ≡ types_
     late_size e = record { answer = rw (passed b h p, ← q, e); goes = tt }
 
     module _ (s w : ℕ) (e : m ≡ Fits s w) (t : List ℕ) (r : Bool) (a : MarkedAll ws t c (args_of f ls c.used) r) where
-      pub late_once : not r ≡ true → Judged (late_step ws ls c f) t ls c f (Turned 7)
+      pub late_once : r ≡ false → Judged (late_step ws ls c f) t ls c f (Turned 7)
       unfolding late_step with_test with_size
       late_once g = record { answer = by r g a.answer; goes = tt }
         where
-          by : (r : Bool) → not r ≡ true → r ≡ once (args_of f ls c.used) (used_in ws c) → stop 7 ≡ late_step ws ls c f
+          by : (r : Bool) → r ≡ false → r ≡ once (args_of f ls c.used) (used_in ws c) → stop 7 ≡ late_step ws ls c f
           by true g o = cc
           by false g o = rw (passed b h p, ← q, e, ← o)
 
@@ -207,14 +207,13 @@ module _ (u t ls : List ℕ) (c : Counts) (few : Few c) (a : Alike u t) where
       }
 
 -- a line whose first tests are passed and whose marks are made
-module _ (ws ls : List ℕ) (c : Counts) (f : Form) (few : Few c) (b : Bool) (p : b ≡ types_in ws ls c f.kind f.word f.count) (h : not b ≡ false) (m : Measured)
+module _ (ws ls : List ℕ) (c : Counts) (f : Form) (few : Few c) (b : Bool) (p : b ≡ types_in ws ls c f.kind f.word f.count) (h : b ≡ true) (m : Measured)
     (q : measured_of m ≡ sized_in ws ls c f.kind f.word f.count) (s w : ℕ) (e : m ≡ Fits s w) (t : List ℕ) (r : Bool)
-    (a : MarkedAll ws t c (args_of f ls c.used) r) (g : not r ≡ false) where
+    (a : MarkedAll ws t c (args_of f ls c.used) r) (g : r ≡ true) where
   late_last : late_step ws ls c f ≡ last_step t ls c f s w
   unfolding late_step last_step with_test with_size reading_of
   late_last =
-      let o : r ≡ true = not-false r g in
-      let once_so : once (args_of f ls c.used) (used_in ws c) ≡ true = sym a.answer ∙ o in
+      let once_so : once (args_of f ls c.used) (used_in ws c) ≡ true = sym a.answer ∙ g in
       rw (
         passed ws ls c f b p h m q b h p,
         ← q,
@@ -223,7 +222,7 @@ module _ (ws ls : List ℕ) (c : Counts) (f : Form) (few : Few c) (b : Bool) (p 
         deepest_alike ws t c a.alike (args_of f ls c.used),
         sums_alike ws t ls c few a.alike f.kind f.count,
         tables_alike ws t ls c few a.alike,
-        a.marks o,
+        a.marks g,
       )
 
   pub late_goes : (v : List ℕ) (k : Stepped) → Judged (last_step t ls c f s w) v ls c f k → Judged (late_step ws ls c f) v ls c f k

@@ -8,7 +8,7 @@ pub mod reading;
 mod steps;
 
 // What is known of a line besides its form: a type's size and weight, its depth, and the sums over nodes with it.
-#[derive(Drop)]
+#[derive(Clone, Copy)]
 pub struct Extent {
     pub size: u64,
     pub weight: u64,
@@ -37,7 +37,7 @@ pub enum Least {
     Nothing,
 }
 
-#[derive(Drop)]
+#[derive(Clone, Copy)]
 pub enum Advanced {
     Behind(Counts, usize),
     Stopped(u64),

@@ -2,7 +2,7 @@
 ghost use Rattle.std.specs.Prelude.{◌≡◌, ◌+◌, ◌*◌, ◌≤◌, ◌<◌, length};
 ghost use Rattle.tables.specs.Tables.{row_of};
 ghost use Rattle.spec.specs.Text.{split, line_feed};
-ghost use Rattle.spec.specs.Read.{at_end, read_lines as read_lines_lem, read_ticket as read_ticket_lem, start};
+ghost use Rattle.spec.specs.Read.{at_end, read_lines as lines_read, read_ticket as ticket_read, start};
 ghost use Rattle.line_checks.specs.Rows.{Few, Held, RoomIs, reading_of};
 ghost use Rattle.ticket.specs.Answers.{least_of, joined, with_left, least_rows, but_last, left_of, Answered, Advance, Ready, behind_of, Begun};
 
@@ -179,7 +179,7 @@ fn room(rows: &[u64], counts: Counts) -> bool
 
 fn read_lines(text: &[u8], rows: &mut [u64], lists: &mut [u64]) -> ReadAnswer
     requires { (length text.now ≤ length lists.old * 2) × (length text.now ≤ 65536) }
-    ensures { Answered (read_lines_lem (split line_feed text.now) start) rows.new lists.new result }
+    ensures { Answered (lines_read (split line_feed text.now) start) rows.new lists.new result }
 {
     let mut counts = none_read();
     let mut at: usize = 0;
@@ -203,7 +203,7 @@ fn read_lines(text: &[u8], rows: &mut [u64], lists: &mut [u64]) -> ReadAnswer
 // Any bytes into tables, or their refusal, or too little room for the tables.
 pub fn read_ticket(text: &[u8], rows: &mut [u64], lists: &mut [u64]) -> ReadAnswer
     requires { length text.now ≤ length lists.old * 2 }
-    ensures { Answered (read_ticket_lem text.now) rows.new lists.new result }
+    ensures { Answered (ticket_read text.now) rows.new lists.new result }
 {
     if limits::TEXT_LIMIT < text.len() {
         return ReadAnswer::Refused(1, 0);

@@ -10,7 +10,7 @@ ghost use Rattle.values.specs.Stack.{source_in, bit_in, repr_in, value_at};
 use emission::Counters;
 use lir::{BitOperand, ByteStorage, Bytes, Source, StorageId};
 
-#[derive(Drop)]
+#[derive(Clone, Copy)]
 pub enum Repr {
     Unit,
     Bit(BitOperand),
@@ -18,14 +18,14 @@ pub enum Repr {
     Aggregate(u64, u64),
 }
 
-#[derive(Drop)]
+#[derive(Clone, Copy)]
 pub struct Value {
     pub ty: u64,
     pub repr: Repr,
 }
 
 // The counters, and where the stack's free words begin.
-#[derive(Drop)]
+#[derive(Clone, Copy)]
 pub struct State {
     pub counters: Counters,
     pub top: usize,

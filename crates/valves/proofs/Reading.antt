@@ -174,11 +174,16 @@ data Taken : List (List ℕ) → Reading → Reading → Type 0 where
   end : {R : Reading} → Taken [] R R
   next : {l : List ℕ} {ls : List (List ℕ)} {R R' : Reading} {x : Line} → line_of l ≡ some x → refusal_of R x ≡ none → Taken ls (add R x) R' → Taken (l ∷ ls) R R'
 
+-- the empty line behind the last line feed is there, so a line is never the last
+taken_on : (R : Reading) (l : List ℕ) (ls : List (List ℕ)) (x : Line) → line_of l ≡ some x → refusal_of R x ≡ none
+    → read_lines (l ∷ (ls ++ ([] ∷ []))) R ≡ read_lines (ls ++ ([] ∷ [])) (add R x)
+taken_on R l [] x e f = takes R l [] [] x e f
+taken_on R l (k ∷ ls) x e f = takes R l k (ls ++ ([] ∷ [])) x e f
+
 all_taken : {ls : List (List ℕ)} {R R' : Reading} → Taken ls R R' → read_lines (ls ++ ([] ∷ [])) R ≡ at_end R'
 unfolding read_lines
 all_taken end = refl
-all_taken (next {l} {R} {x} e f end) = takes R l [] [] x e f
-all_taken (next {l} {R} {x} e f (next {l = k} {ls} p q t)) = takes R l k (ls ++ ([] ∷ [])) x e f ∙ all_taken (next p q t)
+all_taken (next {l} {ls} {R} {R'} {x} e f t) = taken_on R l ls x e f ∙ all_taken t
 
 -- ---------------------------------------------------------------- line by line
 

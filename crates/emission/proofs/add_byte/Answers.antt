@@ -1,0 +1,6 @@
+-- `emission::add_byte` meets its contract: byte i of a sum.
+use borrow.Author.Rules.{rules}
+use Rattle.emission.proofs.add_byte.Goals as goal
+
+pub returns : goal.returns
+returns c = record { kind = rw (c.destination-to.ensures, c.byte_at-left.ensures, c.byte_at-right.ensures, c.carry_in-before.ensures, c.carry_out-after.ensures); sound = tt }

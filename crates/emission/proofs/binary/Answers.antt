@@ -1,0 +1,17 @@
+-- `emission::binary` meets its contract: refused without a width.
+use mathlib.Core.List.{◌∷◌, []}
+use native.Mathlib.Omega.{arith}
+use borrow.Author.Rules.{rules}
+use Rattle.spec.specs.Arithmetic.{binary_instructions}
+use Rattle.spec.specs.Lir.{integer_binary_bytes}
+use Rattle.lir.specs.Abstract.{binary_op_of, destinations_of, bytes_of}
+use Rattle.emission.specs.Forms.{codes_width, codes_refused}
+use Rattle.emission.proofs.binary.Goals as goal
+
+pub returns-in-Absent : goal.returns-in-Absent
+unfolding binary_instructions
+returns-in-Absent c = let a = c.args in λ T ty w. codes_refused (λ x. integer_binary_bytes (binary_op_of a.op) x (destinations_of a.d) (bytes_of a.l) (bytes_of a.r) ∷ []) (rw c.in-Absent.is at w)
+
+pub returns-in-Found : goal.returns-in-Found
+unfolding binary_instructions
+returns-in-Found c = let a = c.args in λ T ty w. codes_width (λ x. integer_binary_bytes (binary_op_of a.op) x (destinations_of a.d) (bytes_of a.l) (bytes_of a.r) ∷ []) (rw c.in-Found.is at w) (omega arith) (omega arith) c.binary_whole.ensures

@@ -1,0 +1,6 @@
+-- `emission::emit_byte` meets its contract: the instruction made is the form's.
+use borrow.Author.Rules.{rules}
+use Rattle.emission.proofs.emit_byte.Goals as goal
+
+pub returns : goal.returns
+returns c = rw c.byte_instruction-kind.ensures.kind at c.emit.ensures

@@ -1,0 +1,14 @@
+use mathlib.Core.Path.{◌≡◌, refl}
+use Prim.Native.Nat.{◌-◌, ◌≤◌}
+use native.Mathlib.Omega.{arith}
+use Rattle.lir.specs.PutFields.{length_tab}
+use Rattle.lir.specs.Abstract.{tab}
+use Rattle.emission.specs.Emits.{Emits, table_none, table_more, room_emitted, emits_length}
+use Rattle.emission.specs.Kinds.{byte_kind}
+use Rattle.emission.proofs.emit_bytes.Given as goal
+
+abbrev pub invariant-loop-i : goal.invariant-loop-i
+invariant-loop-i l = (l.i ≤ l.n) × Emits l.initial.code l.initial.counters (tab (byte_kind l.d l.f) 0 l.i) l.code l.counters
+
+abbrev pub decreases-loop-i : goal.decreases-loop-i
+decreases-loop-i l = l.n - l.i
