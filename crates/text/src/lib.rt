@@ -122,6 +122,7 @@ pub enum Digit {
     Bad,
 }
 
+#[tactic(auto, using(crate::proofs::Steps::steps))]
 fn digit_step(value: u64, byte: u8) -> Digit
     ensures { Step value byte result }
 {

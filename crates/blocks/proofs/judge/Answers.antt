@@ -4,10 +4,10 @@ use Rattle.blocks.specs.Shown.{Judged}
 use Rattle.blocks.proofs.judge.Goals as goal
 
 pub returns-then-length-ne0 : goal.returns-then-length-ne0
-returns-then-length-ne0 c = Judged.uneven (ne_eqb _ _ c.if-length-ne0.true)
+returns-then-length-ne0 c = search (Judged.uneven, ne_eqb)
 
 pub returns-then-room-length : goal.returns-then-room-length
-returns-then-room-length c = Judged.short (eq-eqb _ _ c.if-length-ne0.false) (lt-leb _ _ c.if-room-length.true)
+returns-then-room-length c = search (Judged.short, eq-eqb, lt-leb)
 
 pub returns : goal.returns
-returns c = Judged.fits (eq-eqb _ _ c.if-length-ne0.false) (le-leb _ _ c.if-room-length.false)
+returns c = search (Judged.fits, eq-eqb, le-leb)
