@@ -55,7 +55,7 @@ fn replay<R: Read>(reader: &mut R, numbers: &[u64; 64]) -> bool {
 }
 
 fn main(rt: HostRuntime) -> io::Result<()> {
-    let mut reader = rt.reader();
+    let mut reader = rt.stdin();
     let mut numbers = [0u64; 64];
     let mut t = Tally { ran: 0, failed: 0 };
     while t.ran < 1000000 {

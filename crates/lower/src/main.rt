@@ -76,7 +76,7 @@ fn fail(rt: &impl Eprint, what: &str, e: io::Error) -> io::Result<()> {
 
 fn main(rt: HostRuntime) -> io::Result<()> {
     let mut text = [0u8; 65537];
-    let got = read_text(&mut rt.reader(), &mut text);
+    let got = read_text(&mut rt.stdin(), &mut text);
     if let Some(e) = got.failed {
         return fail(&rt, "standard input", e);
     }

@@ -54,7 +54,7 @@ fn table<R: Read>(rt: &impl Print, reader: &mut R) -> io::Result<bool> {
 }
 
 fn main(rt: HostRuntime) -> io::Result<()> {
-    let mut reader = rt.reader();
+    let mut reader = rt.stdin();
     let mut tables: u64 = 0;
     while tables < 1000 {
         if !table(&rt, &mut reader)? {
