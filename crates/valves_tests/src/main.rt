@@ -9,8 +9,8 @@ ghost use Rattle.valves.specs.Tickets.{Answers};
 ghost use Rattle.valves_tests.specs.Asked.{asked};
 
 use cases::Tally;
-use valves::Answer;
 use std::io::{self, Read};
+use valves::Answer;
 
 fn ticket(kind: u64, n: u64, map: &[u8], buffer: &mut [u8]) -> Answer
     ensures { Answers (asked kind n map.now (length buffer.old)) buffer.old buffer.new result }
