@@ -7,8 +7,8 @@ ghost use Rattle.reading_tests.specs.Asked.{Holds};
 
 use cases::Tally;
 use line_checks::limits;
-use ticket::ReadAnswer;
 use std::io::{self, Read};
+use ticket::ReadAnswer;
 
 fn holds(ticket: &[u8], number: u64, line: u64) -> bool
     ensures { Holds (read_ticket_lem ticket.now) number line result }
@@ -29,7 +29,8 @@ fn holds(ticket: &[u8], number: u64, line: u64) -> bool
 fn replay<R: Read>(reader: &mut R, numbers: &[u64; 64]) -> bool {
     let mut ticket = [0u8; 65538];
     let size = numbers[0] as usize;
-    cases::read(reader, &mut ticket, size) && holds(cases::first(&ticket, size), numbers[1], numbers[2])
+    cases::read(reader, &mut ticket, size)
+        && holds(cases::first(&ticket, size), numbers[1], numbers[2])
 }
 
 fn main(rt: HostRuntime) -> io::Result<()> {
