@@ -1,4 +1,6 @@
 // `lower`: a ticket on standard input; its listing, or `refused,NUMBER,LINE`, on standard output.
+// At most 65,537 bytes are read: a ticket over 65,536 bytes is refused by its length alone, so no more of it is needed.
+// Where a read or a write fails, standard error names the stream, and main returns the error.
 #![tactic(auto)]
 
 ghost use Rattle.std.specs.Prelude.{◌+◌, ◌≤◌, length};
