@@ -3,7 +3,7 @@
 #![tactic(auto)]
 
 ghost use Rattle.std.specs.Prelude.{◌≡◌, true, ◌≤◌, length, take};
-ghost use Rattle.cases.specs.Cases.{Within, Reads, Heads, mark as mark_of, filling, kept, refusal, Printed, Refuses, Accepts, more as more_lem, Counted};
+ghost use Rattle.cases.specs.Cases.{Within, Reads, Heads, mark as mark_of, filling, kept, refusal, Printed, Refuses, Accepts, more as more_of, Counted};
 ghost use Rattle.spec.specs.Text.{same as same_of};
 
 use fields::{Cursor, Listed};
@@ -226,7 +226,7 @@ pub fn accepted(n: usize, expected: &[u8], buffer: &[u8]) -> bool
 }
 
 fn more(n: u64) -> u64
-    ensures { result ≡ more_lem n }
+    ensures { result ≡ more_of n }
 {
     if n < 18446744073709551615 { n + 1 } else { n }
 }
