@@ -14,7 +14,6 @@ use lib.Seq.{get_or-set_same, get_or-set_other, take_all}
 use Rattle.spec.specs.Limits.{text_limit, weight_sum_limit}
 use Rattle.spec.specs.Ticket.{NodeLine, Tables}
 use Rattle.spec.specs.Readable.{Readable, line_sum}
-use Rattle.spec.specs.Monad.{refused}
 use Rattle.spec.specs.Lower.{lowered}
 use Rattle.spec.specs.Text.{split, line_feed}
 use Rattle.spec.specs.Read.{read_ticket}

@@ -47,7 +47,7 @@ use Rattle.values.specs.declared.State.{State}
 use Rattle.values.specs.declared.Value.{Value as Val}
 use Rattle.values.specs.declared.Lowered.{Lowered}
 use Rattle.values.specs.Left.{Bufs, bufs, counters_in, MeetsValue}
-use Rattle.values.specs.Laws.{Placed, prepend_prepend, does_meets, next_meets}
+use Rattle.values.specs.Laws.{prepend_prepend, does_meets, next_meets}
 use Rattle.reads.specs.declared.At.{At}
 use Rattle.reads.specs.Reading.{TypeRoom, StepRoom}
 use Rattle.steps.proofs.Laws.{value_stops}

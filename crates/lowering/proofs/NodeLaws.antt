@@ -1,7 +1,6 @@
 -- What a step leaves does not depend on the node that was in hand before it.
 use mathlib.Core.Path.{◌≡◌, refl}
 use mathlib.Core.List.{List}
-use Prim.Native.Nat.{ℕ}
 use Rattle.spec.specs.Lir.{Value}
 use Rattle.spec.specs.Monad.{Out, Outcome, done, refused}
 use Rattle.spec.specs.Monad as monad

@@ -19,7 +19,6 @@ use Rattle.spec.specs.Print.{print_listing}
 use Rattle.spec.specs.Answer.{ascending, accepted, listing_of, fitted, of_lowering, answer, left_in}
 use Rattle.spec.specs.Answer as spec-answer
 use Rattle.spec.proofs.CostRoom.{room}
-use Rattle.spec.proofs.ReadingTicket.{readable}
 use Rattle.text.proofs.Copying.{middle_is}
 use Rattle.text.specs.Put.{Put, sat, last, sets_append, then}
 use Rattle.tables.specs.declared.Counts.{Counts}

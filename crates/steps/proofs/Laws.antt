@@ -24,7 +24,6 @@ use Rattle.spec.specs.Conversions.{not_zero, value_as_bit, integer_to_bool, lowe
 use Rattle.spec.specs.Lower.{lower_integer, lower_read, lower_expression}
 use Rattle.lir.specs.Abstract.{tab, byte_at, bytes_of}
 use Rattle.lir.specs.declared.BitOperand.{BitOperand as Bit}
-use Rattle.lir.specs.declared.Bytes.{Bytes}
 use Rattle.lir.specs.declared.Source.{Source}
 use Rattle.emission.specs.declared.Counters.{Counters}
 use Rattle.emission.specs.declared.Allocated.{Allocated}

@@ -1,5 +1,4 @@
 -- `arithmetic::fill` meets its contract: the instructions, and then the mask.
-use borrow.Author.Rules.{rules}
 use native.Mathlib.Omega.{arith}
 use Rattle.emission.specs.Appends.{room_less}
 use Rattle.emission.specs.Does.{does_more, room_done}

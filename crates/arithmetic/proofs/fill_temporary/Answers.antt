@@ -1,5 +1,4 @@
 -- `arithmetic::fill_temporary` meets its contract: a new storage, filled, or the first refusal.
-use borrow.Author.Rules.{rules}
 use native.Mathlib.Omega.{arith}
 use Rattle.emission.specs.Appends.{room_less}
 use Rattle.emission.specs.Emits.{room_allocated}

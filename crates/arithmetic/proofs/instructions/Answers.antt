@@ -1,5 +1,4 @@
 -- `arithmetic::instructions` meets its contract: by the operation.
-use borrow.Author.Rules.{rules}
 use Rattle.arithmetic.proofs.instructions.Goals as goal
 
 pub unary_instructions-requires : goal.unary_instructions-requires

@@ -1,5 +1,4 @@
 -- `arithmetic::lower_integer_unary` meets its contract: the operand's bytes, and then the operation.
-use borrow.Author.Rules.{rules}
 use Rattle.reads.specs.Reading.{at_of}
 use Rattle.steps.proofs.Laws.{value_stops}
 use Rattle.arithmetic.proofs.Laws.{unary_no_bytes, unary_meets}

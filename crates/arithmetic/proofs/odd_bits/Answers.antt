@@ -1,5 +1,4 @@
 -- `arithmetic::odd_bits` meets its contract: what the width leaves of whole bytes.
-use borrow.Author.Rules.{rules}
 use native.Mathlib.Omega.{arith}
 use Rattle.arithmetic.proofs.Laws.{odd_none, odd_found}
 use Rattle.arithmetic.proofs.odd_bits.Goals as goal

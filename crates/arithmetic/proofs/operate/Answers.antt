@@ -1,5 +1,4 @@
 -- `arithmetic::operate` meets its contract: a filled temporary, and then its value.
-use borrow.Author.Rules.{rules}
 use mathlib.Core.Path.{sym, ◌∙◌}
 use Rattle.tables.proofs.Laws.{size_here, readable_sized}
 use Rattle.reads.specs.Reading.{at_of}

@@ -1,5 +1,4 @@
 -- Case by case.
-use borrow.Author.Rules.{rules}
 use Rattle.compiler.proofs.as_tried.Goals as goal
 
 pub returns-in-Refused : goal.returns-in-Refused

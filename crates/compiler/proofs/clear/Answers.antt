@@ -1,9 +1,6 @@
 -- The invariant: the words before i are 0.
-use Prim.Native.Nat.{◌-◌}
 use native.Mathlib.Omega.{arith}
-use borrow.Author.Rules.{rules}
-use lib.ListN.{length}
-use Rattle.compiler.proofs.Laws.{Clear, clear_none, clear_more, clear_all}
+use Rattle.compiler.proofs.Laws.{clear_none, clear_more, clear_all}
 use Rattle.compiler.proofs.clear.Goals as goal
 
 pub loop-i-init : goal.loop-i-init

@@ -1,8 +1,6 @@
 use Prim.Native.Nat.{◌-◌}
-use native.Mathlib.Omega.{arith}
-use borrow.Author.Rules.{rules}
 use lib.ListN.{length}
-use Rattle.compiler.proofs.Laws.{Clear, clear_none, clear_more, clear_all}
+use Rattle.compiler.proofs.Laws.{Clear}
 use Rattle.compiler.proofs.clear.Given as goal
 
 abbrev pub invariant-loop-i : goal.invariant-loop-i

@@ -1,5 +1,4 @@
 -- The small words first, and where they are too few the large ones.
-use borrow.Author.Rules.{rules}
 use Rattle.compiler.proofs.Laws.{tried_refused, tried_accepted, tried_kept, answers_again}
 use Rattle.compiler.proofs.lower.Goals as goal
 

@@ -1,5 +1,4 @@
 -- A text that is too long is refused unread; then the lists and the rows are enough to begin, or too few.
-use borrow.Author.Rules.{rules}
 use mathlib.Core.Path.{refl}
 use mathlib.Core.Logic.{inl, inr, ⊎_elim}
 use native.Mathlib.Omega.{arith}

@@ -1,5 +1,4 @@
 -- Its own arrays are enough for every ticket.
-use borrow.Author.Rules.{rules}
 use Prim.Native.Nat.{ℕ}
 use native.Mathlib.Omega.{arith}
 use lib.ListN.{length, replicate, length-replicate}

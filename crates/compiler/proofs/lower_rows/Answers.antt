@@ -1,5 +1,4 @@
 -- The rows from the nodes on.
-use borrow.Author.Rules.{rules}
 use Rattle.compiler.proofs.Laws.{rest_is}
 use Rattle.compiler.proofs.lower_rows.Goals as goal
 

@@ -1,5 +1,4 @@
 -- Few words of its own do, or it says so.
-use borrow.Author.Rules.{rules}
 use Rattle.compiler.proofs.Laws.{tries_any}
 use Rattle.compiler.proofs.lower_small.Goals as goal
 

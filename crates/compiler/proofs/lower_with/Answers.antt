@@ -1,5 +1,4 @@
 -- The answer by what is read, or that words are too few.
-use borrow.Author.Rules.{rules}
 use mathlib.Core.Path.{refl}
 use mathlib.Core.Logic.{inl}
 use native.Mathlib.Omega.{arith}

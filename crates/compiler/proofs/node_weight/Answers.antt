@@ -1,5 +1,4 @@
 -- The weight of the node's type.
-use borrow.Author.Rules.{rules}
 use Rattle.compiler.proofs.Laws.{weight_is}
 use Rattle.compiler.proofs.node_weight.Goals as goal
 

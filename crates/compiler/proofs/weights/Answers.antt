@@ -1,9 +1,7 @@
 -- The invariant: the sum so far and what is left of it are the whole.
-use borrow.Author.Rules.{rules}
 use native.Mathlib.Omega.{arith}
-use Prim.Native.Nat.{◌-◌}
 use Rattle.tables.proofs.Laws.{readable_sized}
-use Rattle.compiler.proofs.Laws.{Summed, sum_none, sum_more, sum_all, sum_small}
+use Rattle.compiler.proofs.Laws.{sum_none, sum_more, sum_all, sum_small}
 use Rattle.compiler.proofs.weights.Goals as goal
 
 pub loop-k-init : goal.loop-k-init

@@ -1,8 +1,5 @@
-use borrow.Author.Rules.{rules}
-use native.Mathlib.Omega.{arith}
 use Prim.Native.Nat.{◌-◌}
-use Rattle.tables.proofs.Laws.{readable_sized}
-use Rattle.compiler.proofs.Laws.{Summed, sum_none, sum_more, sum_all, sum_small}
+use Rattle.compiler.proofs.Laws.{Summed}
 use Rattle.compiler.proofs.weights.Given as goal
 
 abbrev pub invariant-loop-k : goal.invariant-loop-k

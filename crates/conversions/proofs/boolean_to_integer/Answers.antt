@@ -1,5 +1,4 @@
 -- `conversions::boolean_to_integer` meets its contract: the bit in a new temporary, or the refusal.
-use borrow.Author.Rules.{rules}
 use Rattle.reads.specs.Reading.{at_of}
 use Rattle.steps.proofs.Pointers.{meets_as}
 use Rattle.steps.proofs.Laws.{value_stops}

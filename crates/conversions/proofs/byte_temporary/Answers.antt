@@ -1,5 +1,4 @@
 -- `conversions::byte_temporary` meets its contract: a Bool's is refused.
-use borrow.Author.Rules.{rules}
 use Rattle.conversions.proofs.Laws.{byte_bool, byte_meets}
 use Rattle.conversions.proofs.byte_temporary.Goals as goal
 

@@ -1,5 +1,4 @@
 -- `conversions::copied` meets its contract: the copies, and then mask and reading.
-use borrow.Author.Rules.{rules}
 use native.Mathlib.Omega.{arith}
 use Rattle.reads.specs.Reading.{at_of}
 use Rattle.conversions.proofs.Laws.{room_copied, copy_meets}

@@ -1,5 +1,4 @@
 -- `conversions::copied_new` meets its contract: a new temporary, or its refusal.
-use borrow.Author.Rules.{rules}
 use native.Mathlib.Omega.{arith}
 use Rattle.emission.specs.Temporaries.{temporary_placed, temporary_refused}
 use Rattle.reads.specs.Reading.{at_of}

@@ -1,5 +1,4 @@
 -- `conversions::flagged` meets its contract: the bit and zeros, and then the reading.
-use borrow.Author.Rules.{rules}
 use native.Mathlib.Omega.{arith}
 use Rattle.reads.specs.Reading.{at_of}
 use Rattle.conversions.proofs.Laws.{room_flagged, flag_meets}

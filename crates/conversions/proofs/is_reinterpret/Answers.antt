@@ -1,5 +1,4 @@
 -- `conversions::is_reinterpret` meets its contract: form by form.
-use borrow.Author.Rules.{rules}
 use mathlib.Core.Path.{ap}
 use Rattle.conversions.proofs.Laws.{is_reinterpreting, reinterprets}
 use Rattle.conversions.proofs.is_reinterpret.Goals as goal

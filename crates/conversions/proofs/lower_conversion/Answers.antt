@@ -1,5 +1,4 @@
 -- `conversions::lower_conversion` meets its contract: form by form.
-use borrow.Author.Rules.{rules}
 use native.Mathlib.Omega.{arith}
 use Rattle.reads.specs.Reading.{at_of}
 use Rattle.tables.proofs.Laws.{readable_sized}

@@ -1,5 +1,4 @@
 -- `conversions::lower_pointer_offset` meets its contract: the base's bytes, then the offset's.
-use borrow.Author.Rules.{rules}
 use Rattle.reads.specs.Reading.{at_of}
 use Rattle.steps.proofs.Pointers.{meets_as}
 use Rattle.steps.proofs.Laws.{value_stops}

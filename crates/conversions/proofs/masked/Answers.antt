@@ -1,5 +1,4 @@
 -- `conversions::masked` meets its contract: the mask, and then the reading.
-use borrow.Author.Rules.{rules}
 use native.Mathlib.Omega.{arith}
 use Rattle.reads.specs.Reading.{at_of}
 use Rattle.conversions.proofs.Laws.{room_masked, mask_meets}

@@ -1,5 +1,4 @@
 -- `conversions::normalized_bytes` meets its contract: the bytes themselves, or a masked copy.
-use borrow.Author.Rules.{rules}
 use native.Mathlib.Omega.{arith}
 use Rattle.reads.specs.Reading.{at_of}
 use mathlib.Core.Path.{refl}

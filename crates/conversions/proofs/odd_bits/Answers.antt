@@ -1,5 +1,4 @@
 -- `conversions::odd_bits` meets its contract: a width's rest by 8.
-use borrow.Author.Rules.{rules}
 use native.Mathlib.Omega.{arith}
 use Rattle.emission.specs.Forms.{odd_width}
 use Rattle.conversions.proofs.odd_bits.Goals as goal

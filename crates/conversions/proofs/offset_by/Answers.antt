@@ -1,5 +1,4 @@
 -- `conversions::offset_by` meets its contract: a pointer, a carry, and two sums.
-use borrow.Author.Rules.{rules}
 use native.Mathlib.Omega.{arith}
 use Rattle.conversions.proofs.Pointers.{offset_meets}
 use Rattle.conversions.proofs.offset_by.Goals as goal

@@ -1,5 +1,4 @@
 -- `conversions::offset_bytes` meets its contract: a base of two bytes at least.
-use borrow.Author.Rules.{rules}
 use native.Mathlib.Omega.{arith}
 use Rattle.reads.specs.Reading.{at_of}
 use Rattle.steps.proofs.Pointers.{meets_as}

@@ -1,5 +1,4 @@
 -- `conversions::read_temporary` meets its contract: the whole of a storage, read.
-use borrow.Author.Rules.{rules}
 use Rattle.conversions.proofs.Laws.{room_read}
 use Rattle.conversions.proofs.read_temporary.Goals as goal
 

@@ -1,5 +1,4 @@
 -- `conversions::reinterpreted` meets its contract: by the two sizes.
-use borrow.Author.Rules.{rules}
 use Rattle.conversions.proofs.Laws.{reinterpret_refused, reinterpret_done}
 use Rattle.conversions.proofs.reinterpreted.Goals as goal
 

@@ -1,5 +1,4 @@
 -- `conversions::resized` meets its contract: the bytes at the type's size, or the refusal.
-use borrow.Author.Rules.{rules}
 use Rattle.reads.specs.Reading.{at_of}
 use Rattle.tables.proofs.Laws.{readable_sized}
 use Rattle.steps.proofs.Pointers.{meets_as}

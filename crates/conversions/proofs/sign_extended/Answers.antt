@@ -1,5 +1,4 @@
 -- `conversions::sign_extended` meets its contract: the width, then the bytes, then the temporary.
-use borrow.Author.Rules.{rules}
 use Rattle.reads.specs.Reading.{at_of}
 use Rattle.steps.proofs.Pointers.{meets_as}
 use Rattle.steps.proofs.Laws.{wide, value_stops}

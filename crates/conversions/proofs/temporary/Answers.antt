@@ -1,5 +1,4 @@
 -- `conversions::temporary` meets its contract: of the type's size.
-use borrow.Author.Rules.{rules}
 use mathlib.Core.Path.{sym, ◌∙◌}
 use Rattle.tables.proofs.Laws.{readable_sized, size_here}
 use Rattle.conversions.proofs.temporary.Goals as goal

@@ -1,17 +1,7 @@
-use Prim.Native.Nat.{ℕ, ◌<◌}
-use native.Mathlib.Omega.{arith}
-use borrow.Author.Rules.{rules}
-use mathlib.Core.Path.{◌∙◌}
-use Rattle.spec.specs.Ticket.{nowhere}
 use Rattle.tables.specs.Tables.{tables_of}
-use Rattle.tables.proofs.Laws.{readable_sized, tree_none}
-use Rattle.values.specs.Left.{bufs, value_done, bit_done}
-use Rattle.reads.specs.Reading.{at_of}
-use Rattle.lowering.proofs.FormLaws.{found_room, found_meets}
-use Rattle.lowering.proofs.NodeLaws.{meets_restored}
-use Rattle.lowering.proofs.RoomLaws.{node_after, leaf_room, one_room, one_top, one_ready, two_room, two_top, second_room, two_ready, select_room, select_top, other_room, condition_room, select_ready, bit_room, tree_top, list_room}
-use Rattle.lowering.proofs.CycleLaws.{rank, rank_down, rank_same, one_refused, one_meets, two_refused, second_refused, both_meet, first_refused, other_refused, condition_refused, choice_meets, operand_refused, bit_meets, gathered_meets}
-use Rattle.lowering.proofs.ListLaws.{Rest, rest_all, rest_none, rest_fits, rest_first, rest_refused, rest_more}
+use Rattle.values.specs.Left.{bufs}
+use Rattle.lowering.proofs.CycleLaws.{rank}
+use Rattle.lowering.proofs.ListLaws.{Rest}
 use Rattle.lowering.proofs.+expression_as_bit_lower_aggregate_lower_expression_lower_list_lower_one_lower_select_lower_two.Given as goal
 
 abbrev pub decreases-expression_as_bit : goal.decreases-expression_as_bit

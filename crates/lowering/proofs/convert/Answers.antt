@@ -1,5 +1,4 @@
 -- `lowering::convert` meets its contract: a value's records under another type, or a step that looks at the head alone.
-use borrow.Author.Rules.{rules}
 use Rattle.tables.proofs.Laws.{readable_sized}
 use Rattle.lowering.proofs.StepLaws.{behind_conversion, behind_reinterpreted}
 use Rattle.lowering.proofs.convert.Goals as goal

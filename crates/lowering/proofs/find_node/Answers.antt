@@ -1,5 +1,4 @@
 -- `lowering::find_node` meets its contract: the line's kind, and where it stands.
-use borrow.Author.Rules.{rules}
 use mathlib.Core.Path.{sym}
 use Rattle.tables.proofs.Laws.{tree_here}
 use Rattle.lowering.proofs.find_node.Goals as goal

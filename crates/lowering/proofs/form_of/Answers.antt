@@ -1,5 +1,4 @@
 -- `lowering::form_of` meets its contract: by the kind.
-use borrow.Author.Rules.{rules}
 use Rattle.lowering.proofs.form_of.Goals as goal
 
 pub returns-in-Bool : goal.returns-in-Bool

@@ -1,5 +1,4 @@
 -- `lowering::lower_leaf` meets its contract: each leaf as its own step leaves it.
-use borrow.Author.Rules.{rules}
 use mathlib.Core.Path.{refl}
 use native.Mathlib.Omega.{arith}
 use Rattle.spec.specs.Ticket.{nowhere}

@@ -1,5 +1,4 @@
 -- `lowering::one_step` meets its contract: each step behind its operand.
-use borrow.Author.Rules.{rules}
 use Rattle.lowering.proofs.StepLaws.{behind_unary, behind_extract}
 use Rattle.lowering.proofs.one_step.Goals as goal
 

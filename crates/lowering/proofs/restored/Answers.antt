@@ -1,5 +1,4 @@
 -- The outcome is kept, and the state's node alone is another.
-use borrow.Author.Rules.{rules}
 use Rattle.lowering.proofs.restored.Goals as goal
 
 pub returns-in-Refused : goal.returns-in-Refused

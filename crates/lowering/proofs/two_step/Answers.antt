@@ -1,5 +1,4 @@
 -- `lowering::two_step` meets its contract: each step behind its operands.
-use borrow.Author.Rules.{rules}
 use native.Mathlib.Omega.{arith}
 use Rattle.emission.specs.Appends.{room_less}
 use Rattle.tables.specs.Tables.{tables_of}

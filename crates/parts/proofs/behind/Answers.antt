@@ -5,7 +5,6 @@ use Rattle.values.specs.declared.Value.{Value as Val}
 use Rattle.values.specs.Heads.{head_of, records}
 use Rattle.values.specs.Stack.{value_at}
 use Rattle.parts.specs.Extract.{place_behind}
-use borrow.Author.Rules.{rules}
 use Rattle.parts.proofs.behind.Goals as goal
 
 pub returns-then-m-n : goal.returns-then-m-n

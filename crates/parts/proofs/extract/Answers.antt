@@ -1,6 +1,5 @@
 -- Only an aggregate has parts.
 use mathlib.Core.Path.{refl}
-use borrow.Author.Rules.{rules}
 use Rattle.parts.proofs.extract.Goals as goal
 
 pub returns-in-Unit : goal.returns-in-Unit

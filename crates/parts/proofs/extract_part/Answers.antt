@@ -1,6 +1,5 @@
 -- Part i is found and taken, or there is none.
 use Rattle.parts.specs.Extract.{picked, missed}
-use borrow.Author.Rules.{rules}
 use Rattle.parts.proofs.extract_part.Goals as goal
 
 pub returns-then-at-end : goal.returns-then-at-end

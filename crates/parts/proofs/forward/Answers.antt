@@ -1,6 +1,6 @@
 -- The same operands are left at every turn.
 use mathlib.Core.Path.{◌≡◌, refl, sym, ap, subst}
-use Prim.Native.Nat.{◌+◌, ◌-◌}
+use Prim.Native.Nat.{◌+◌}
 use native.Mathlib.Omega.{arith}
 use Rattle.parts.specs.declared.Cursor.{Cursor}
 use Rattle.parts.specs.Operands.{opened, Going, going_on, arrived, ended}

@@ -1,8 +1,5 @@
-use mathlib.Core.Path.{◌≡◌, refl, sym, ap, subst}
-use Prim.Native.Nat.{◌+◌, ◌-◌}
-use native.Mathlib.Omega.{arith}
-use Rattle.parts.specs.declared.Cursor.{Cursor}
-use Rattle.parts.specs.Operands.{opened, Going, going_on, arrived, ended}
+use Prim.Native.Nat.{◌-◌}
+use Rattle.parts.specs.Operands.{Going}
 use Rattle.parts.proofs.forward.Given as goal
 
 abbrev pub invariant-loop-d : goal.invariant-loop-d

@@ -1,8 +1,7 @@
 -- The part at p ends where its own records end.
 use native.Mathlib.Omega.{arith}
-use Rattle.parts.specs.Extract.{Behind, passed}
+use Rattle.parts.specs.Extract.{passed}
 use Rattle.parts.specs.Insert.{replaced}
-use borrow.Author.Rules.{rules}
 use Rattle.parts.proofs.insert_at.Goals as goal
 
 pub put_part-requires : goal.put_part-requires

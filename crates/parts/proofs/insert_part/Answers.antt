@@ -1,6 +1,5 @@
 -- Part i is found and replaced, or there is none.
 use Rattle.parts.specs.Insert.{put, not_put}
-use borrow.Author.Rules.{rules}
 use Rattle.parts.proofs.insert_part.Goals as goal
 
 pub returns-then-p-mid : goal.returns-then-p-mid

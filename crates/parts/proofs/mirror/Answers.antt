@@ -1,10 +1,8 @@
 -- What is left to mirror is the same at every turn.
-use mathlib.Core.Path.{◌≡◌, refl, sym, ◌∙◌}
-use Prim.Native.Nat.{◌-◌, ◌≤◌}
+use mathlib.Core.Path.{refl, sym, ◌∙◌}
 use native.Mathlib.Omega.{arith}
-use borrow.Author.Rules.{rules}
-use lib.ListN.{length, length-set}
-use Rattle.parts.specs.Mirror.{mirrored, mirror_more, mirror_done}
+use lib.ListN.{length-set}
+use Rattle.parts.specs.Mirror.{mirror_more, mirror_done}
 use Rattle.parts.proofs.mirror.Goals as goal
 
 pub loop-j-init : goal.loop-j-init

@@ -1,9 +1,7 @@
-use mathlib.Core.Path.{◌≡◌, refl, sym, ◌∙◌}
+use mathlib.Core.Path.{◌≡◌}
 use Prim.Native.Nat.{◌-◌, ◌≤◌}
-use native.Mathlib.Omega.{arith}
-use borrow.Author.Rules.{rules}
-use lib.ListN.{length, length-set}
-use Rattle.parts.specs.Mirror.{mirrored, mirror_more, mirror_done}
+use lib.ListN.{length}
+use Rattle.parts.specs.Mirror.{mirrored}
 use Rattle.parts.proofs.mirror.Given as goal
 
 abbrev pub invariant-loop-j : goal.invariant-loop-j

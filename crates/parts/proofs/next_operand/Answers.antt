@@ -1,6 +1,5 @@
 -- The cursor stands before an operand, or there is none left.
 use Rattle.parts.specs.Operands.{next_more, next_over}
-use borrow.Author.Rules.{rules}
 use Rattle.parts.proofs.next_operand.Goals as goal
 
 pub returns-then-index-count : goal.returns-then-index-count

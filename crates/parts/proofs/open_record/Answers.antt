@@ -3,7 +3,6 @@ use mathlib.Core.Path.{ap, ◌∙◌}
 use Prim.Native.Nat.{◌+◌}
 use Rattle.values.specs.declared.Value.{Value as Val}
 use Rattle.parts.specs.Operands.{before_first, opened}
-use borrow.Author.Rules.{rules}
 use Rattle.parts.proofs.open_record.Goals as goal
 
 pub returns : goal.returns

@@ -3,7 +3,6 @@ use mathlib.Core.Path.{sym, ap, subst, ◌∙◌}
 use Prim.Native.Nat.{ℕ, ◌<◌}
 use Rattle.spec.specs.Lir.{byte_operand}
 use Rattle.parts.specs.Operands.{length_own_bytes, own_byte, own_bit}
-use borrow.Author.Rules.{rules}
 use Rattle.parts.proofs.operand_at.Goals as goal
 
 pub byte_at-requires : goal.byte_at-requires

@@ -1,7 +1,6 @@
 -- As many operands as bytes, or one bit, or none.
 use mathlib.Core.Path.{sym}
 use Rattle.parts.specs.Operands.{length_own_bytes}
-use borrow.Author.Rules.{rules}
 use Rattle.parts.proofs.operand_count.Goals as goal
 
 pub returns-in-Bytes : goal.returns-in-Bytes

@@ -1,5 +1,4 @@
 -- The count is that of the record's own operands.
-use borrow.Author.Rules.{rules}
 use Rattle.parts.proofs.operands.Goals as goal
 
 pub returns : goal.returns

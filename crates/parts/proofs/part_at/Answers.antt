@@ -1,7 +1,6 @@
 -- Part i is found by skipping the i values before it.
-use Prim.Native.Nat.{◌+◌, ◌-◌}
 use native.Mathlib.Omega.{arith}
-use Rattle.parts.specs.Extract.{passed, Skipping, skipping_none, skipping_more, skipping_found, skipping_end}
+use Rattle.parts.specs.Extract.{passed, skipping_none, skipping_more, skipping_found, skipping_end}
 use Rattle.parts.proofs.part_at.Goals as goal
 
 pub loop-at-init : goal.loop-at-init

@@ -1,6 +1,5 @@
-use Prim.Native.Nat.{◌+◌, ◌-◌}
-use native.Mathlib.Omega.{arith}
-use Rattle.parts.specs.Extract.{passed, Skipping, skipping_none, skipping_more, skipping_found, skipping_end}
+use Prim.Native.Nat.{◌-◌}
+use Rattle.parts.specs.Extract.{Skipping}
 use Rattle.parts.proofs.part_at.Given as goal
 
 abbrev pub invariant-loop-at : goal.invariant-loop-at

@@ -5,7 +5,6 @@ use Prim.Native.Nat.{ℕ}
 use lib.ListN.{length, take}
 use Rattle.values.specs.Left.{length_value}
 use Rattle.parts.specs.Mirror.{seg, put_words}
-use borrow.Author.Rules.{rules}
 use Rattle.parts.proofs.put_part.Goals as goal
 
 pub returns : goal.returns

@@ -1,7 +1,6 @@
 -- The value at a place is read, and then its own parts are moved down.
 use native.Mathlib.Omega.{arith}
-use Rattle.parts.specs.Extract.{Behind, passed, taken}
-use borrow.Author.Rules.{rules}
+use Rattle.parts.specs.Extract.{passed, taken}
 use Rattle.parts.proofs.take_part.Goals as goal
 
 pub overflow_sub-n : goal.overflow_sub-n

@@ -3,7 +3,6 @@ use mathlib.Core.Path.{ap, ◌∙◌}
 use mathlib.Core.List.{List}
 use Prim.Native.Nat.{ℕ, ◌+◌, ◌-◌}
 use Rattle.parts.specs.Mirror.{mirrored, three_turns}
-use borrow.Author.Rules.{rules}
 use Rattle.parts.proofs.turn.Goals as goal
 
 pub returns : goal.returns

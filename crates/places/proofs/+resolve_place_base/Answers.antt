@@ -1,8 +1,6 @@
 -- `places::resolve_place_base` meets its contract: by the place's kind, the measure is the depth that is left.
-use Prim.Native.Nat.{ℕ, ◌<◌}
 use mathlib.Core.Path.{sym, ◌∙◌}
 use native.Mathlib.Omega.{arith}
-use borrow.Author.Rules.{rules}
 use Rattle.spec.specs.Places.{resolve_place_base as place_base}
 use Rattle.tables.proofs.Laws.{place_none, place_here, readable_sized}
 use Rattle.places.proofs.Facts.{bases_bind}

@@ -1,6 +1,4 @@
 -- `places::array_of` meets its contract: by the type's kind; any other is no array.
-use borrow.Author.Rules.{rules}
-use mathlib.Core.List.{◌∷◌, []}
 use Rattle.places.proofs.Others.{no_array}
 use Rattle.places.proofs.array_of.Goals as goal
 

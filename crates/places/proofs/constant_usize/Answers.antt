@@ -1,7 +1,5 @@
 -- `places::constant_usize` meets its contract: by the node's kind; at depth 0 the node is `null`.
-use borrow.Author.Rules.{rules}
 use mathlib.Core.Path.{sym, ◌∙◌}
-use mathlib.Core.List.{◌∷◌, []}
 use Rattle.spec.specs.Places.{constant_usize}
 use Rattle.tables.proofs.Laws.{tree_none, tree_here, readable_sized}
 use Rattle.places.proofs.Others.{no_constant}

@@ -1,5 +1,4 @@
 -- `places::element_base` meets its contract: the element of a base that is fine, behind the base.
-use borrow.Author.Rules.{rules}
 use Rattle.places.proofs.Laws.{refuse_refuses}
 use Rattle.places.proofs.Facts.{bases_bind, bases_refused}
 use Rattle.places.proofs.element_base.Goals as goal

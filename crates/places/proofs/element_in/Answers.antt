@@ -1,5 +1,4 @@
 -- `places::element_in` meets its contract: the index is inside, so its product with the size is at most the array's size.
-use borrow.Author.Rules.{rules}
 use mathlib.Core.Path.{ap, sym, ◌∙◌}
 use borrow.Author.Tests.{lt-ltb, le-ltb}
 use native.Mathlib.Omega.{arith}

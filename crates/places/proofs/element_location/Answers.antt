@@ -1,5 +1,4 @@
 -- `places::element_location` meets its contract: the element of a base that is fine, behind the base.
-use borrow.Author.Rules.{rules}
 use Rattle.places.proofs.Laws.{refuse_refuses}
 use Rattle.places.proofs.Facts.{locates_bind, locates_refused}
 use Rattle.places.proofs.element_location.Goals as goal

@@ -1,5 +1,4 @@
 -- `places::element_offset` meets its contract: by the array, if the type is one, and the constant.
-use borrow.Author.Rules.{rules}
 use mathlib.Core.Path.{ap, ◌∙◌}
 use Rattle.spec.specs.Places.{element_offset}
 use Rattle.places.specs.Abstract.{array_option}

@@ -1,5 +1,4 @@
 -- `places::field_base` meets its contract: the field of a base that is fine, behind the base.
-use borrow.Author.Rules.{rules}
 use Rattle.places.proofs.Laws.{refuse_refuses}
 use Rattle.places.proofs.Facts.{bases_bind, bases_refused}
 use Rattle.places.proofs.field_base.Goals as goal

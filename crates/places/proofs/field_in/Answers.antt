@@ -1,5 +1,4 @@
 -- `places::field_in` meets its contract: a field is there just where the index is below the count.
-use borrow.Author.Rules.{rules}
 use Prim.Native.Nat.{◌≤◌}
 use native.Mathlib.Omega.{arith}
 use Rattle.places.specs.Answers.{gives, refuses}

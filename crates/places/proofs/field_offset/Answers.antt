@@ -1,5 +1,4 @@
 -- `places::field_offset` meets its contract: by the fields, if the type has any.
-use borrow.Author.Rules.{rules}
 use mathlib.Core.Path.{ap, ◌∙◌}
 use Rattle.spec.specs.Places.{field_offset}
 use Rattle.places.specs.Abstract.{fields_option}

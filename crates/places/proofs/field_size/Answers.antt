@@ -1,5 +1,4 @@
 -- `places::field_size` meets its contract: the stored size is the table's.
-use borrow.Author.Rules.{rules}
 use mathlib.Core.Path.{sym, ◌∙◌}
 use Rattle.tables.proofs.Laws.{readable_sized, size_here}
 use Rattle.places.proofs.field_size.Goals as goal

@@ -1,6 +1,4 @@
 -- `places::fields_of` meets its contract: by the type's kind; any other has no fields.
-use borrow.Author.Rules.{rules}
-use mathlib.Core.List.{◌∷◌, []}
 use Rattle.places.proofs.Others.{no_fields}
 use Rattle.places.proofs.fields_of.Goals as goal
 

@@ -1,5 +1,4 @@
 -- `places::location_in` meets its contract: 27 past the limit.
-use borrow.Author.Rules.{rules}
 use mathlib.Core.Path.{sym, ◌∙◌}
 use borrow.Author.Tests.{leb-true}
 use Rattle.spec.specs.Places.{location_in, within}

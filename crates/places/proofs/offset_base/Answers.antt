@@ -1,5 +1,4 @@
 -- `places::offset_base` meets its contract: the offset into a base that is fine, behind the base.
-use borrow.Author.Rules.{rules}
 use Rattle.places.proofs.Laws.{refuse_refuses}
 use Rattle.places.proofs.Facts.{bases_refused}
 use Rattle.places.proofs.offset_base.Goals as goal

@@ -1,5 +1,4 @@
 -- `places::offset_in` meets its contract: the constant, then the limit.
-use borrow.Author.Rules.{rules}
 use mathlib.Core.Path.{sym, ap, ◌∙◌}
 use borrow.Author.Tests.{leb-true}
 use Rattle.spec.specs.Places.{within}

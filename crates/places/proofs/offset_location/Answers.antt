@@ -1,5 +1,4 @@
 -- `places::offset_location` meets its contract: the constant, then the location, behind the base.
-use borrow.Author.Rules.{rules}
 use mathlib.Core.Path.{ap, ◌∙◌}
 use Rattle.places.specs.Abstract.{constant_option}
 use Rattle.places.specs.Answers.{gives, refuses}

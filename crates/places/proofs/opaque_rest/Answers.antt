@@ -1,6 +1,4 @@
 -- `places::opaque_rest` meets its contract: both ways give the difference that stops at 0.
-use borrow.Author.Rules.{rules}
-use mathlib.Core.Logic.{⊎_elim}
 use mathlib.Core.Path.{◌≡◌}
 use Prim.Native.Nat.{◌-◌}
 use native.Mathlib.Omega.{arith}

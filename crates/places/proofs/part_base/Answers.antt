@@ -1,5 +1,4 @@
 -- `places::part_base` meets its contract: a part inside the limit is fine, and 27 past it.
-use borrow.Author.Rules.{rules}
 use mathlib.Core.Path.{sym, ◌∙◌}
 use borrow.Author.Tests.{leb-true}
 use Rattle.spec.specs.Places.{within}

@@ -1,5 +1,4 @@
 -- `places::part_location` meets its contract: 22 is told before 27.
-use borrow.Author.Rules.{rules}
 use mathlib.Core.Path.{sym, ◌∙◌}
 use borrow.Author.Tests.{leb-true, eq-eqb, ne_eqb}
 use Rattle.spec.specs.Places.{location_in, within}

@@ -1,5 +1,4 @@
 -- `places::part_of` meets its contract: the type's kind and size are the table's.
-use borrow.Author.Rules.{rules}
 use Rattle.tables.proofs.Laws.{readable_sized}
 use Rattle.places.proofs.Facts.{part_read}
 use Rattle.places.proofs.part_of.Goals as goal

@@ -1,5 +1,4 @@
 -- `places::placed_location` meets its contract: 20 where nothing is found.
-use borrow.Author.Rules.{rules}
 use mathlib.Core.Path.{ap}
 use Rattle.tables.specs.Tables.{placed_option}
 use Rattle.places.specs.Answers.{gives, refuses}

@@ -1,5 +1,4 @@
 -- `places::resolve_place` meets its contract: by the place's kind, each behind its base.
-use borrow.Author.Rules.{rules}
 use mathlib.Core.Path.{sym, ◌∙◌}
 use Rattle.spec.specs.Places.{resolve_place as place-located}
 use Rattle.tables.proofs.Laws.{place_none, place_here, readable_sized}

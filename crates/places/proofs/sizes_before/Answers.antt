@@ -1,11 +1,10 @@
 -- `places::sizes_before` meets its contract: the loop holds the sum over the fields passed; the sum over all of them is small.
-use Prim.Native.Nat.{◌+◌, ◌-◌, ◌≤◌}
+use Prim.Native.Nat.{◌+◌, ◌≤◌}
 use native.Mathlib.Omega.{arith}
 use Prim.Native.Nat.{zero-le}
 use mathlib.Core.Path.{◌≡◌, sym}
-use Rattle.spec.specs.Ticket.{sum}
 use Rattle.spec.specs.Allocation.{type_size}
-use Rattle.tables.specs.Tables.{run, tables_of}
+use Rattle.tables.specs.Tables.{tables_of}
 use Rattle.places.proofs.Facts.{sum_run_none, sum_run_more, with_most}
 use Rattle.places.proofs.sizes_before.Goals as goal
 

@@ -1,11 +1,8 @@
-use Prim.Native.Nat.{◌+◌, ◌-◌, ◌≤◌}
-use native.Mathlib.Omega.{arith}
-use Prim.Native.Nat.{zero-le}
-use mathlib.Core.Path.{◌≡◌, sym}
+use Prim.Native.Nat.{◌-◌, ◌≤◌}
+use mathlib.Core.Path.{◌≡◌}
 use Rattle.spec.specs.Ticket.{sum}
 use Rattle.spec.specs.Allocation.{type_size}
 use Rattle.tables.specs.Tables.{run, tables_of}
-use Rattle.places.proofs.Facts.{sum_run_none, sum_run_more, with_most}
 use Rattle.places.proofs.sizes_before.Given as goal
 
 abbrev pub invariant-loop-i : goal.invariant-loop-i

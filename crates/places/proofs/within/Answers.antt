@@ -1,5 +1,4 @@
 -- `places::within` meets its contract: a sum's bound is told by a difference.
-use borrow.Author.Rules.{rules}
 use Rattle.places.proofs.Laws.{leb_moved}
 use Rattle.places.proofs.within.Goals as goal
 

@@ -1,5 +1,4 @@
 -- The line by what the value is.
-use borrow.Author.Rules.{rules}
 use Rattle.printing.proofs.print_head.Goals as goal
 
 pub print_value_bytes-requires : goal.print_value_bytes-requires

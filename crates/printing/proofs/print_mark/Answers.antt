@@ -1,5 +1,4 @@
 -- A line, or none.
-use borrow.Author.Rules.{rules}
 use native.Mathlib.Omega.{arith}
 use Rattle.printing.proofs.Laws.{unmarked, mark_put}
 use Rattle.printing.proofs.print_mark.Goals as goal

@@ -1,11 +1,7 @@
 -- The invariant: what is printed and the lines of the marks that are left are the whole.
-use borrow.Author.Rules.{rules}
-use mathlib.Core.Path.{◌≡◌, refl, ◌∙◌}
-use Prim.Native.Nat.{◌≤◌, ◌-◌}
-use lib.ListN.{length}
+use mathlib.Core.Path.{refl, ◌∙◌}
 use native.Mathlib.Omega.{arith}
-use Rattle.printing.specs.Marks.{marks_from, narrowed_lines}
-use Rattle.printing.proofs.Laws.{Going, going_none, going_more, going_all, marks_all, marks_cons, marks_none}
+use Rattle.printing.proofs.Laws.{going_none, going_more, going_all, marks_all, marks_cons, marks_none}
 use Rattle.printing.proofs.print_narrowed.Goals as goal
 
 pub loop-k-init : goal.loop-k-init

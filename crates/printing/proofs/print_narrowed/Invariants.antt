@@ -1,10 +1,8 @@
-use borrow.Author.Rules.{rules}
-use mathlib.Core.Path.{◌≡◌, refl, ◌∙◌}
+use mathlib.Core.Path.{◌≡◌}
 use Prim.Native.Nat.{◌≤◌, ◌-◌}
 use lib.ListN.{length}
-use native.Mathlib.Omega.{arith}
 use Rattle.printing.specs.Marks.{marks_from, narrowed_lines}
-use Rattle.printing.proofs.Laws.{Going, going_none, going_more, going_all, marks_all, marks_cons, marks_none}
+use Rattle.printing.proofs.Laws.{Going}
 use Rattle.printing.proofs.print_narrowed.Given as goal
 
 abbrev pub invariant-loop-k : goal.invariant-loop-k

@@ -1,11 +1,7 @@
 -- The invariant: what is printed and the lines of the records that are left are the whole.
-use mathlib.Core.Path.{◌≡◌, refl, ◌∙◌}
-use Prim.Native.Nat.{◌≤◌, ◌-◌}
-use lib.ListN.{length}
+use mathlib.Core.Path.{refl, ◌∙◌}
 use native.Mathlib.Omega.{arith}
-use Rattle.values.specs.Stack.{heads, Stands}
-use Rattle.printing.specs.Lines.{head_lines}
-use Rattle.printing.proofs.Laws.{Going, going_none, going_more, going_all, record_room, lines_cons, first_sound, stands_next, lines_none}
+use Rattle.printing.proofs.Laws.{going_none, going_more, going_all, record_room, lines_cons, first_sound, stands_next, lines_none}
 use Rattle.printing.proofs.print_records.Goals as goal
 
 pub loop-i-init : goal.loop-i-init

@@ -1,10 +1,9 @@
-use mathlib.Core.Path.{◌≡◌, refl, ◌∙◌}
+use mathlib.Core.Path.{◌≡◌}
 use Prim.Native.Nat.{◌≤◌, ◌-◌}
 use lib.ListN.{length}
-use native.Mathlib.Omega.{arith}
 use Rattle.values.specs.Stack.{heads, Stands}
 use Rattle.printing.specs.Lines.{head_lines}
-use Rattle.printing.proofs.Laws.{Going, going_none, going_more, going_all, record_room, lines_cons, first_sound, stands_next, lines_none}
+use Rattle.printing.proofs.Laws.{Going}
 use Rattle.printing.proofs.print_records.Given as goal
 
 abbrev pub invariant-loop-i : goal.invariant-loop-i

@@ -1,5 +1,4 @@
 -- The head's line, and then those of the parts.
-use borrow.Author.Rules.{rules}
 use Rattle.text.specs.Put.{then}
 use Rattle.values.specs.Heads.{head_of}
 use Rattle.values.specs.Stack.{heads}

@@ -1,16 +1,6 @@
-use Prim.Native.Nat.{ℕ, ◌<◌, ◌+◌, ◌*◌}
-use native.Mathlib.Omega.{arith}
-use borrow.Author.Rules.{rules}
-use mathlib.Core.Path.{refl, sym, ◌∙◌}
-use Rattle.spec.specs.Monad.{◌>>=◌}
-use Rattle.spec.specs.ReadBytes.{read_bytes_as_type}
-use Rattle.tables.specs.Tables.{tables_of}
-use Rattle.tables.proofs.Laws.{size_here, readable_sized}
-use Rattle.values.specs.Left.{counters_in}
+use Prim.Native.Nat.{◌+◌, ◌*◌}
 use Rattle.reads.specs.Reading.{at_of}
-use Rattle.reads.proofs.Lines.{size_at_of, read_here, parts_size, parts_weight, parts_few}
-use Rattle.reads.proofs.Laws.{leaf_room, gather_meets, room_parts}
-use Rattle.reads.proofs.PartLaws.{Rest, rest_all, rest_none, rest_fits, rest_first, rest_reach, rest_refused, rest_more}
+use Rattle.reads.proofs.PartLaws.{Rest}
 use Rattle.reads.proofs.+read_bytes_as_type_read_parts.Given as goal
 
 abbrev pub decreases-read_bytes_as_type : goal.decreases-read_bytes_as_type

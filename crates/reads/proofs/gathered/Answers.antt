@@ -1,5 +1,4 @@
 -- `reads::gathered` meets its contract: the head is as the list was: done with its records, or refused.
-use borrow.Author.Rules.{rules}
 use Rattle.reads.proofs.gathered.Goals as goal
 
 pub returns-in-Refused : goal.returns-in-Refused

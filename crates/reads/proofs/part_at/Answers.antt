@@ -1,5 +1,4 @@
 -- `reads::part_at` meets its contract: a part's type, and that type's size.
-use borrow.Author.Rules.{rules}
 use Rattle.reads.proofs.part_at.Goals as goal
 
 pub returns : goal.returns

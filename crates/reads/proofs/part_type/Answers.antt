@@ -1,5 +1,4 @@
 -- `reads::part_type` meets its contract: by the kind of parts.
-use borrow.Author.Rules.{rules}
 use Rattle.reads.proofs.part_type.Goals as goal
 
 pub returns-in-Fields : goal.returns-in-Fields

@@ -1,5 +1,4 @@
 -- `reads::read_bool` meets its contract: one storage and one instruction, as the definition appends them.
-use borrow.Author.Rules.{rules}
 use Rattle.emission.specs.Emits.{room_allocated}
 use Rattle.reads.proofs.Laws.{bool_meets}
 use Rattle.reads.proofs.read_bool.Goals as goal

@@ -1,5 +1,4 @@
 -- `reads::read_leaf` meets its contract: each leaf as its own step leaves it.
-use borrow.Author.Rules.{rules}
 use mathlib.Core.Path.{refl, sym, ◌∙◌}
 use native.Mathlib.Omega.{arith}
 use Rattle.spec.specs.Lir.{value, unit}

@@ -1,5 +1,4 @@
 -- `reads::read_location` meets its contract: a bit as it stands, or a type read at the greatest depth.
-use borrow.Author.Rules.{rules}
 use mathlib.Core.Path.{refl}
 use native.Mathlib.Omega.{arith}
 use Rattle.spec.specs.Lir.{value, bit_value, stored_bit}

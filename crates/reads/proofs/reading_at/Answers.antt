@@ -1,5 +1,4 @@
 -- `reads::reading_at` meets its contract: the reading of the kind found.
-use borrow.Author.Rules.{rules}
 use Rattle.reads.proofs.reading_at.Goals as goal
 
 pub returns : goal.returns

@@ -1,5 +1,4 @@
 -- `reads::reading_of` meets its contract: by the kind.
-use borrow.Author.Rules.{rules}
 use Rattle.reads.proofs.reading_of.Goals as goal
 
 pub returns-in-Unit : goal.returns-in-Unit

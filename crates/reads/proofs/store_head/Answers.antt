@@ -1,5 +1,4 @@
 -- `reads::store_head` meets its contract: the record's words are stored.
-use borrow.Author.Rules.{rules}
 use Rattle.reads.proofs.store_head.Goals as goal
 
 pub returns : goal.returns

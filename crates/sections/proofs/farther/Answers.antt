@@ -1,5 +1,4 @@
 -- The larger number, or the sum.
-use borrow.Author.Rules.{rules}
 use native.Mathlib.Omega.{arith}
 use Rattle.text.specs.Put.{sat}
 use Rattle.sections.proofs.farther.Goals as goal

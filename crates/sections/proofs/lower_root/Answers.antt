@@ -1,5 +1,4 @@
 -- The root's tree has its room, and its lowering is the ticket's.
-use borrow.Author.Rules.{rules}
 use Rattle.sections.proofs.Laws.{some_node, root_ready, root_meets}
 use Rattle.sections.proofs.lower_root.Goals as goal
 

@@ -1,5 +1,4 @@
 -- The answer by the outcome, and by the room.
-use borrow.Author.Rules.{rules}
 use native.Mathlib.Omega.{arith}
 use Rattle.tables.specs.Tables.{tables_of}
 use Rattle.sections.proofs.Laws.{ready_kept, measured_done, measured_refused, answer_too_long, answer_refused, answer_accepted}

@@ -1,5 +1,4 @@
 -- The sections and halves by what the run leaves, or its refusal.
-use borrow.Author.Rules.{rules}
 use Rattle.tables.specs.Tables.{tables_of}
 use Rattle.values.specs.Left.{value_done, value_refused}
 use Rattle.sections.proofs.Laws.{storage_count, printable, held}

@@ -1,8 +1,4 @@
 -- From the halves where they have room, else by further runs.
-use borrow.Author.Rules.{rules}
-use borrow.Author.Tests.{leb-true}
-use Prim.Native.Nat.{◌-◌}
-use lib.ListN.{length}
 use native.Mathlib.Omega.{arith}
 use Rattle.sections.proofs.Laws.{half_first, halves_put}
 use Rattle.sections.proofs.place.Goals as goal

@@ -1,5 +1,4 @@
 -- The value's lines, and then the last.
-use borrow.Author.Rules.{rules}
 use Rattle.text.specs.Put.{then}
 use Rattle.sections.proofs.print_end.Goals as goal
 

@@ -1,7 +1,5 @@
 -- The four sections, one behind the other.
-use borrow.Author.Rules.{rules}
 use native.Mathlib.Omega.{arith}
-use mathlib.Core.Path.{◌∙◌}
 use Rattle.sections.proofs.Laws.{storage_count, exact, ready_kept, end_ready, not_refused, listing_put}
 use Rattle.sections.proofs.write.Goals as goal
 

@@ -1,5 +1,4 @@
 -- A run over a part of the buffer.
-use borrow.Author.Rules.{rules}
 use Rattle.tables.specs.Tables.{tables_of}
 use Rattle.sections.proofs.Laws.{code_put}
 use Rattle.sections.proofs.write_code.Goals as goal

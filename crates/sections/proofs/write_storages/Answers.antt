@@ -1,5 +1,4 @@
 -- A run over the buffer's front alone.
-use borrow.Author.Rules.{rules}
 use mathlib.Core.Path.{sym}
 use lib.Seq.{length-take-le}
 use Rattle.tables.specs.Tables.{tables_of}

@@ -1,5 +1,4 @@
 -- `selects::bit_piece` meets its contract: two bits, or the refusal of a byte.
-use borrow.Author.Rules.{rules}
 use Rattle.spec.specs.Select.{select_piece}
 use mathlib.Core.Path.{refl}
 use Rattle.selects.proofs.bit_piece.Goals as goal

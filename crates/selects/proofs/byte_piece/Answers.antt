@@ -1,5 +1,4 @@
 -- `selects::byte_piece` meets its contract: two bytes, or the refusal of a bit.
-use borrow.Author.Rules.{rules}
 use Rattle.spec.specs.Select.{select_piece}
 use mathlib.Core.Path.{refl}
 use Rattle.selects.proofs.byte_piece.Goals as goal

@@ -1,5 +1,4 @@
 -- `selects::lower_select` meets its contract: a temporary, or its refusal, and what is done behind it.
-use borrow.Author.Rules.{rules}
 use mathlib.Core.Path.{sym, ◌∙◌}
 use native.Mathlib.Omega.{arith}
 use Rattle.tables.specs.Tables.{tables_of}

@@ -1,10 +1,6 @@
-use mathlib.Core.Path.{◌≡◌, refl}
 use Prim.Native.Nat.{◌-◌, ◌≤◌}
-use native.Mathlib.Omega.{arith}
-use borrow.Author.Rules.{rules}
 use Rattle.lir.specs.Abstract.{tab, bit_operand_of}
-use Rattle.lir.specs.PutFields.{length_tab}
-use Rattle.emission.specs.Emits.{Emits, table_none, table_more, room_emitted, emits_length}
+use Rattle.emission.specs.Emits.{Emits}
 use Rattle.selects.specs.Selecting.{byte_selected}
 use Rattle.selects.proofs.select_bytes.Given as goal
 

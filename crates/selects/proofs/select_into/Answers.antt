@@ -1,5 +1,4 @@
 -- `selects::select_into` meets its contract: the temporary filled, and then read.
-use borrow.Author.Rules.{rules}
 use mathlib.Core.Path.{refl}
 use native.Mathlib.Omega.{arith}
 use mathlib.Core.List.{◌∷◌}

@@ -1,5 +1,4 @@
 -- `selects::select_next` meets its contract: a side that is over, or a piece.
-use borrow.Author.Rules.{rules}
 use Rattle.selects.proofs.Laws.{first_over, second_over, piece_refused, piece_more}
 use Rattle.selects.proofs.select_next.Goals as goal
 

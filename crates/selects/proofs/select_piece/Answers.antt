@@ -1,5 +1,4 @@
 -- `selects::select_piece` meets its contract: by the kind of destination.
-use borrow.Author.Rules.{rules}
 use Rattle.selects.proofs.select_piece.Goals as goal
 
 pub returns-then-bit : goal.returns-then-bit

@@ -1,11 +1,7 @@
 -- `selects::select_pieces` meets its contract: what the pieces that are left leave, the whole leaves.
-use mathlib.Core.Path.{◌∙◌}
 use native.Mathlib.Omega.{arith}
-use borrow.Author.Rules.{rules}
-use Rattle.lir.specs.Abstract.{bit_operand_of}
 use Rattle.emission.specs.Appends.{room_less}
-use Rattle.selects.specs.Selecting.{target}
-use Rattle.selects.proofs.Laws.{Rest, rest_all, rest_none, rest_over, rest_refused, rest_more}
+use Rattle.selects.proofs.Laws.{rest_all, rest_none, rest_over, rest_refused, rest_more}
 use Rattle.selects.proofs.select_pieces.Goals as goal
 
 pub loop-m-init : goal.loop-m-init

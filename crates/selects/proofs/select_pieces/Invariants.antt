@@ -1,10 +1,6 @@
-use mathlib.Core.Path.{◌∙◌}
-use native.Mathlib.Omega.{arith}
-use borrow.Author.Rules.{rules}
 use Rattle.lir.specs.Abstract.{bit_operand_of}
-use Rattle.emission.specs.Appends.{room_less}
 use Rattle.selects.specs.Selecting.{target}
-use Rattle.selects.proofs.Laws.{Rest, rest_all, rest_none, rest_over, rest_refused, rest_more}
+use Rattle.selects.proofs.Laws.{Rest}
 use Rattle.selects.proofs.select_pieces.Given as goal
 
 abbrev pub invariant-loop-m : goal.invariant-loop-m

@@ -1,5 +1,4 @@
 -- `selects::select_to_location` meets its contract: the types are compared, and then all pieces made.
-use borrow.Author.Rules.{rules}
 use native.Mathlib.Omega.{arith}
 use lib.Dec.{eqb}
 use Rattle.emission.specs.Appends.{room_less}

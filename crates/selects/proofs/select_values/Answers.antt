@@ -1,5 +1,4 @@
 -- `selects::select_values` meets its contract: byte by byte, or by cursors.
-use borrow.Author.Rules.{rules}
 use native.Mathlib.Omega.{arith}
 use Rattle.lir.specs.Abstract.{bit_operand_of}
 use Rattle.emission.specs.Appends.{room_less}

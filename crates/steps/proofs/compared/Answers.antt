@@ -1,5 +1,4 @@
 -- `steps::compared` meets its contract: a new bit, or the refusal of floats.
-use borrow.Author.Rules.{rules}
 use Rattle.reads.specs.Reading.{at_of}
 use Rattle.steps.proofs.Laws.{value_stops, compared_float, compared_meets}
 use Rattle.steps.proofs.compared.Goals as goal

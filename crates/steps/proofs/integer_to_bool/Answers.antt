@@ -1,5 +1,4 @@
 -- `steps::integer_to_bool` meets its contract: a new bit, or the refusal.
-use borrow.Author.Rules.{rules}
 use Rattle.reads.specs.Reading.{at_of}
 use Rattle.steps.proofs.Laws.{bool_stopped, bool_new}
 use Rattle.steps.proofs.integer_to_bool.Goals as goal

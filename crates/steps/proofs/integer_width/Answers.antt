@@ -1,5 +1,4 @@
 -- `steps::integer_width` meets its contract: the width of the type at its line.
-use borrow.Author.Rules.{rules}
 use Rattle.steps.proofs.Laws.{has_width}
 use Rattle.steps.proofs.integer_width.Goals as goal
 

@@ -1,5 +1,4 @@
 -- `steps::lower_address_of` meets its contract: the address of the base that the place leads to.
-use borrow.Author.Rules.{rules}
 use Rattle.steps.proofs.Pointers.{based_refused, based_found, meets_as}
 use Rattle.steps.proofs.Laws.{value_stops}
 use Rattle.reads.specs.Reading.{at_of}

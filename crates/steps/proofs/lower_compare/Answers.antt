@@ -1,5 +1,4 @@
 -- `steps::lower_compare` meets its contract: the width first, then the operands, then the operator.
-use borrow.Author.Rules.{rules}
 use Rattle.reads.specs.Reading.{at_of}
 use Rattle.steps.proofs.Laws.{wide, value_stops, compare_no_width, compare_no_left, compare_no_right, compare_meets}
 use Rattle.steps.proofs.lower_compare.Goals as goal

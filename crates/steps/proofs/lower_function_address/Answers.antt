@@ -1,5 +1,4 @@
 -- `steps::lower_function_address` meets its contract: a storage of two bytes and the instruction that fills it.
-use borrow.Author.Rules.{rules}
 use Rattle.emission.specs.Emits.{room_allocated}
 use Rattle.steps.proofs.Pointers.{function_meets}
 use Rattle.steps.proofs.lower_function_address.Goals as goal

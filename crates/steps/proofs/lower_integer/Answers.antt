@@ -1,5 +1,4 @@
 -- `steps::lower_integer` meets its contract: a constant, or the refusal of one that is too long.
-use borrow.Author.Rules.{rules}
 use Rattle.steps.proofs.Laws.{integer_meets, integer_refused, value_stops}
 use Rattle.reads.specs.Reading.{at_of}
 use native.Mathlib.Omega.{arith}

@@ -1,5 +1,4 @@
 -- `steps::lower_null` meets its contract: a constant of two bytes.
-use borrow.Author.Rules.{rules}
 use Rattle.steps.proofs.Laws.{null_meets}
 use Rattle.reads.specs.Reading.{at_of}
 use Rattle.steps.proofs.lower_null.Goals as goal

@@ -1,5 +1,4 @@
 -- `steps::lower_read` meets its contract: the location that the place leads to, read.
-use borrow.Author.Rules.{rules}
 use Rattle.steps.proofs.Laws.{value_stops, read_refused, read_meets, room_found}
 use Rattle.reads.specs.Reading.{at_of}
 use Rattle.steps.proofs.lower_read.Goals as goal

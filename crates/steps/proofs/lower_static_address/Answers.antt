@@ -1,5 +1,4 @@
 -- `steps::lower_static_address` meets its contract: the address of the storage that the static has.
-use borrow.Author.Rules.{rules}
 use Rattle.steps.proofs.Pointers.{static_missing, static_found, meets_as}
 use Rattle.steps.proofs.Laws.{value_stops}
 use Rattle.reads.specs.Reading.{at_of}

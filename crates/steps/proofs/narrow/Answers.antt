@@ -1,5 +1,4 @@
 -- `steps::narrow` meets its contract: by the owner and by the length of the marks.
-use borrow.Author.Rules.{rules}
 use Rattle.steps.proofs.Pointers.{narrow_in, narrow_out, narrow_not}
 use native.Mathlib.Omega.{arith}
 use Rattle.steps.proofs.narrow.Goals as goal

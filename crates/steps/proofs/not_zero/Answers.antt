@@ -1,5 +1,4 @@
 -- `steps::not_zero` meets its contract: the width first, then the bytes, then the comparison.
-use borrow.Author.Rules.{rules}
 use Rattle.steps.proofs.Laws.{wide, zero_does, zero_no_width, zero_no_bytes}
 use Rattle.steps.proofs.not_zero.Goals as goal
 

@@ -1,5 +1,4 @@
 -- `steps::storage_address` meets its contract: a mark, a storage of two bytes and the instruction that fills it.
-use borrow.Author.Rules.{rules}
 use Rattle.steps.proofs.Pointers.{address_refused, address_meets}
 use Rattle.steps.proofs.Laws.{value_stops}
 use Rattle.reads.specs.Reading.{at_of}

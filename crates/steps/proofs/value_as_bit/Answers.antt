@@ -1,5 +1,4 @@
 -- `steps::value_as_bit` meets its contract: its own bit, or a new one.
-use borrow.Author.Rules.{rules}
 use Rattle.reads.specs.Reading.{at_of}
 use Rattle.steps.proofs.Laws.{bit_own, bit_stopped, bit_new}
 use native.Mathlib.Omega.{arith}

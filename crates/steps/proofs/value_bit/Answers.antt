@@ -1,5 +1,4 @@
 -- `steps::value_bit` meets its contract: by the kind of value.
-use borrow.Author.Rules.{rules}
 use Rattle.steps.proofs.value_bit.Goals as goal
 
 pub returns-in-Bit : goal.returns-in-Bit

@@ -1,5 +1,4 @@
 -- `steps::value_bytes` meets its contract: by the kind of value.
-use borrow.Author.Rules.{rules}
 use Rattle.steps.proofs.value_bytes.Goals as goal
 
 pub returns-in-Bytes : goal.returns-in-Bytes

@@ -1,5 +1,4 @@
 -- `steps::width_of` meets its contract: by the kind of type.
-use borrow.Author.Rules.{rules}
 use Rattle.steps.proofs.width_of.Goals as goal
 
 pub returns-in-Unit : goal.returns-in-Unit

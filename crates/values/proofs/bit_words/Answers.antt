@@ -1,4 +1,3 @@
-use borrow.Author.Rules.{rules}
 use Rattle.values.proofs.bit_words.Goals as goal
 
 pub returns-in-Constant : goal.returns-in-Constant

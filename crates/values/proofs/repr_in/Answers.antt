@@ -1,4 +1,3 @@
-use borrow.Author.Rules.{rules}
 use native.Mathlib.Omega.{arith}
 use Rattle.values.specs.Stack.{repr_parted}
 use Rattle.values.proofs.repr_in.Goals as goal

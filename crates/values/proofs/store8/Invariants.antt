@@ -1,11 +1,7 @@
-use mathlib.Core.Path.{◌≡◌, refl, ap, ◌∙◌}
-use mathlib.Core.List.{List}
-use Prim.Native.Nat.{ℕ, ◌-◌, ◌≤◌}
-use native.Mathlib.Omega.{arith}
-use mathlib.Core.Logic.{⊎_elim}
-use lib.ListN.{length, take}
-use lib.Seq.{sets, length-sets, take_all}
-use Rattle.values.specs.Stores.{stored_more, dropped_more}
+use mathlib.Core.Path.{◌≡◌}
+use Prim.Native.Nat.{◌-◌, ◌≤◌}
+use lib.ListN.{take}
+use lib.Seq.{sets}
 use Rattle.values.proofs.store8.Given as goal
 
 abbrev pub invariant-loop-j : goal.invariant-loop-j

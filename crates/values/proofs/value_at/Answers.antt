@@ -1,4 +1,3 @@
-use borrow.Author.Rules.{rules}
 use Rattle.values.specs.Stack.{value_at}
 use Rattle.values.proofs.value_at.Goals as goal
 

@@ -1,4 +1,3 @@
-use borrow.Author.Rules.{rules}
 use Rattle.values.specs.Left.{value_words}
 use Rattle.values.proofs.value_words.Goals as goal
 
