@@ -128,6 +128,7 @@ fn any_number(line: &[u8], cursor: Cursor) -> Decimal
 }
 
 // Digits that end at i, where neither none nor a 0 before others.
+#[tactic(auto, using(crate::proofs::OnePass::quick_laws))]
 fn whole(line: &[u8], at: usize, i: usize, value: u64) -> Decimal
     requires { Digits line.now at i value × Found line.now at comma i }
     ensures { QuickAt line.now at result }

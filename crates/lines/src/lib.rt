@@ -80,6 +80,7 @@ fn listing_line(listing: &[u8], k: u64) -> Span
 }
 
 // Where the line of storage k lies: the ticket's k-th that begins `s,`, else the listing's first that begins `storage,k,`.
+#[tactic(auto, using(crate::proofs::Parts::place_laws), unfolding(crate::specs::Lines::storage_line))]
 pub fn storage_place(ticket: &[u8], listing: &[u8], k: u64) -> Place
     ensures { result ≡ place_of (storage_line ticket.now listing.now k) }
 {
