@@ -9,6 +9,7 @@ ghost use Rattle.blocks_tests.specs.Asked.{turned, fits, Holds};
 
 use blocks::Answer;
 use cases::Tally;
+use std::io::{self, Read};
 
 fn answer(call: u64, input: &[u8], output: &mut [u8]) -> Answer
     ensures { Answers (turned call) input.now output.old output.new result }
@@ -58,16 +59,16 @@ fn holds_within(numbers: &[u64; 64], input: &[u8], output: &mut [u8], expected: 
 }
 
 // The next case, behind its head.
-fn replay(numbers: &[u64; 64]) -> bool {
+fn replay<R: Read>(reader: &mut R, numbers: &[u64; 64]) -> bool {
     let mut input = [0u8; 320];
     let mut output = [0u8; 320];
     let mut expected = [0u8; 320];
     let length = numbers[1] as usize;
     let room = numbers[2] as usize;
-    if !cases::read(&mut input, length) {
+    if !cases::read(reader, &mut input, length) {
         return false;
     }
-    if !cases::read(&mut expected, room) {
+    if !cases::read(reader, &mut expected, room) {
         return false;
     }
     holds_within(
@@ -78,15 +79,16 @@ fn replay(numbers: &[u64; 64]) -> bool {
     )
 }
 
-fn main() {
+fn main(rt: HostRuntime) -> io::Result<()> {
+    let mut reader = rt.stdin();
     let mut numbers = [0u64; 64];
     let mut t = Tally { ran: 0, failed: 0 };
     while t.ran < 1000000 {
-        let h = cases::block_head(32, 5, &mut numbers);
+        let h = cases::block_head(&mut reader, 32, 5, &mut numbers);
         if h.over {
             break;
         }
-        t = cases::counted(t, h.right && replay(&numbers));
+        t = cases::counted(t, h.right && replay(&mut reader, &numbers));
     }
-    cases::print(t, b"cases");
+    cases::print(&rt, t, b"cases")
 }

@@ -3,11 +3,11 @@
 #![tactic(auto)]
 
 ghost use Rattle.std.specs.Prelude.{◌≡◌, true, ◌≤◌, length, take};
-ghost use Rattle.cases.specs.Cases.{Within, Reads, Heads, mark as mark_of, filling, kept, refusal, Printed, Refuses, Accepts, more as capped_after, Counted};
+ghost use Rattle.cases.specs.Cases.{Within, Reads, Heads, mark as mark_of, filling, kept, refusal, Printed, Refuses, Accepts, more as more_of, Counted};
 ghost use Rattle.spec.specs.Text.{same as same_of};
 
 use fields::{Cursor, Listed};
-use libc::{STDIN_FILENO, STDOUT_FILENO};
+use std::io::{self, Read};
 
 // A line of standard input, as many bytes without its line feed. What no line feed ends is broken.
 #[derive(Drop)]
@@ -30,15 +30,30 @@ pub struct Tally {
     pub failed: u64,
 }
 
+// Reads until the part is full, the input ends or a read fails, and says how many bytes were read.
+fn read_full<R: Read>(reader: &mut R, part: &mut [u8]) -> usize
+    ensures { result ≤ length part.new }
+{
+    let mut done: usize = 0;
+    while done < part.len() {
+        let n = reader.read(&mut part[done..]).unwrap_or(0);
+        if n == 0 {
+            break;
+        }
+        done += n;
+    }
+    done
+}
+
 // Whether as many bytes were there to read.
-pub fn read(bytes: &mut [u8], n: usize) -> bool
+pub fn read<R: Read>(reader: &mut R, bytes: &mut [u8], n: usize) -> bool
     ensures { result ≡ true → n ≤ length bytes.new }
 {
     if bytes.len() < n {
         return false;
     }
     let part = &mut bytes[..n];
-    io::read_full(STDIN_FILENO, part) == n
+    read_full(reader, part) == n
 }
 
 // The first n bytes, or all where there are fewer.
@@ -52,13 +67,13 @@ pub fn first(bytes: &[u8], n: usize) -> &[u8]
 }
 
 // A byte at a time, so that nothing behind the line is taken.
-pub fn read_line(line: &mut [u8]) -> Line
+pub fn read_line<R: Read>(reader: &mut R, line: &mut [u8]) -> Line
     ensures { Within result (length line.new) }
 {
     let mut byte = [0u8; 1];
     let mut n: usize = 0;
     while n < line.len() {
-        if io::read_full(STDIN_FILENO, &mut byte) == 0 {
+        if read_full(reader, &mut byte) == 0 {
             return if n == 0 { Line::End } else { Line::Broken };
         }
         let b = byte[0];
@@ -72,14 +87,14 @@ pub fn read_line(line: &mut [u8]) -> Line
 }
 
 // A line in a block of `size` bytes, with line feeds behind it.
-fn read_block(line: &mut [u8], size: usize) -> Line
+fn read_block<R: Read>(reader: &mut R, line: &mut [u8], size: usize) -> Line
     ensures { Within result (length line.new) }
 {
     if line.len() < size {
         return Line::Broken;
     }
     let part = &mut line[..size];
-    let got = io::read_full(STDIN_FILENO, part);
+    let got = read_full(reader, part);
     if got == 0 {
         return Line::End;
     }
@@ -122,16 +137,21 @@ fn head_in(line: &[u8], got: Line, count: usize, numbers: &mut [u64; 64]) -> Hea
 }
 
 // The next head, a line of `count` numbers.
-pub fn line_head(count: usize, numbers: &mut [u64; 64]) -> Head {
+pub fn line_head<R: Read>(reader: &mut R, count: usize, numbers: &mut [u64; 64]) -> Head {
     let mut line = [0u8; 128];
-    let got = read_line(&mut line);
+    let got = read_line(reader, &mut line);
     head_in(&line, got, count, numbers)
 }
 
 // The next head, such a line in a block of `size` bytes.
-pub fn block_head(size: usize, count: usize, numbers: &mut [u64; 64]) -> Head {
+pub fn block_head<R: Read>(
+    reader: &mut R,
+    size: usize,
+    count: usize,
+    numbers: &mut [u64; 64],
+) -> Head {
     let mut line = [0u8; 128];
-    let got = read_block(&mut line, size);
+    let got = read_block(reader, &mut line, size);
     head_in(&line, got, count, numbers)
 }
 
@@ -206,7 +226,7 @@ pub fn accepted(n: usize, expected: &[u8], buffer: &[u8]) -> bool
 }
 
 fn more(n: u64) -> u64
-    ensures { result ≡ capped_after n }
+    ensures { result ≡ more_of n }
 {
     if n < 18446744073709551615 { n + 1 } else { n }
 }
@@ -229,11 +249,8 @@ pub fn counted(t: Tally, held: bool) -> Tally
 }
 
 // `N WHAT, M failed`.
-pub fn print(t: Tally, what: &[u8]) {
-    io::print_decimal(STDOUT_FILENO, t.ran);
-    io::write_all(STDOUT_FILENO, b" ");
-    io::write_all(STDOUT_FILENO, what);
-    io::write_all(STDOUT_FILENO, b", ");
-    io::print_decimal(STDOUT_FILENO, t.failed);
-    io::write_all(STDOUT_FILENO, b" failed\n");
+pub fn print(rt: &impl Print, t: Tally, what: &[u8]) -> io::Result<()> {
+    print!(rt; "{} ", t.ran)?;
+    rt.write_all(what)?;
+    println!(rt; ", {} failed", t.failed)
 }

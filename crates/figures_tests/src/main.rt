@@ -9,6 +9,7 @@ ghost use Rattle.cases.specs.Cases.{Right};
 
 use cases::Tally;
 use figures::Answer;
+use std::io::{self, Read};
 
 fn holds(lines: &[u8], expected: &[u8], buffer: &mut [u8]) -> bool
     ensures { Right (answer lines.now (length buffer.old)) expected.now result }
@@ -33,16 +34,16 @@ fn holds_within(lines: &[u8], expected: &[u8], buffer: &mut [u8], room: usize) -
 }
 
 // The next text, behind its head.
-fn replay(numbers: &[u64; 64]) -> bool {
+fn replay<R: Read>(reader: &mut R, numbers: &[u64; 64]) -> bool {
     let mut lines = [0u8; 32768];
     let mut expected = [0u8; 256];
     let mut buffer = [0u8; 256];
     let size = numbers[0] as usize;
     let answer = numbers[2] as usize;
-    if !cases::read(&mut lines, size) {
+    if !cases::read(reader, &mut lines, size) {
         return false;
     }
-    if !cases::read(&mut expected, answer) {
+    if !cases::read(reader, &mut expected, answer) {
         return false;
     }
     holds_within(
@@ -53,15 +54,16 @@ fn replay(numbers: &[u64; 64]) -> bool {
     )
 }
 
-fn main() {
+fn main(rt: HostRuntime) -> io::Result<()> {
+    let mut reader = rt.stdin();
     let mut numbers = [0u64; 64];
     let mut t = Tally { ran: 0, failed: 0 };
     while t.ran < 1000000 {
-        let h = cases::line_head(3, &mut numbers);
+        let h = cases::line_head(&mut reader, 3, &mut numbers);
         if h.over {
             break;
         }
-        t = cases::counted(t, h.right && replay(&numbers));
+        t = cases::counted(t, h.right && replay(&mut reader, &numbers));
     }
-    cases::print(t, b"texts");
+    cases::print(&rt, t, b"texts")
 }

@@ -10,7 +10,7 @@ use denote.Ref.{Bor}
 use Rattle.spec.specs.Text.{same}
 use Rattle.fields.proofs.Lines.{both_true}
 use Rattle.cases.proofs.Laws.{same_equal}
-use Rattle.lines.specs.Lines.{Answer, of_ticket, of_listing, missing, number, storage_line}
+use Rattle.lines.specs.Lines.{Answer, of_ticket, of_listing, missing, storage_line}
 use Rattle.lines.specs.Handed.{Handed, part_of, place_of}
 use Rattle.lines_tests.specs.Asked.{stands, part, refusal, bytes_of, Gives, Holds}
 

@@ -10,6 +10,7 @@ ghost use Rattle.lines_tests.specs.Asked.{stands, between, part, refusal as refu
 
 use cases::Tally;
 use lines::Place;
+use std::io::{self, Read};
 
 // Whether a is c, and b is d.
 fn equal(a: u64, b: u64, c: u64, d: u64) -> bool
@@ -73,15 +74,15 @@ fn holds<'a>(ticket: &'a [u8], listing: &'a [u8], k: u64, text: u64, from: u64, 
 }
 
 // The next case, behind its head.
-fn replay(numbers: &[u64; 64]) -> bool {
+fn replay<R: Read>(reader: &mut R, numbers: &[u64; 64]) -> bool {
     let mut ticket = [0u8; 65536];
     let mut listing = [0u8; 65536];
     let a = numbers[0] as usize;
     let b = numbers[1] as usize;
-    if !cases::read(&mut ticket, a) {
+    if !cases::read(reader, &mut ticket, a) {
         return false;
     }
-    if !cases::read(&mut listing, b) {
+    if !cases::read(reader, &mut listing, b) {
         return false;
     }
     holds(
@@ -94,15 +95,16 @@ fn replay(numbers: &[u64; 64]) -> bool {
     )
 }
 
-fn main() {
+fn main(rt: HostRuntime) -> io::Result<()> {
+    let mut reader = rt.stdin();
     let mut numbers = [0u64; 64];
     let mut t = Tally { ran: 0, failed: 0 };
     while t.ran < 1000000 {
-        let h = cases::line_head(6, &mut numbers);
+        let h = cases::line_head(&mut reader, 6, &mut numbers);
         if h.over {
             break;
         }
-        t = cases::counted(t, h.right && replay(&numbers));
+        t = cases::counted(t, h.right && replay(&mut reader, &numbers));
     }
-    cases::print(t, b"cases");
+    cases::print(&rt, t, b"cases")
 }

@@ -11,6 +11,7 @@ ghost use Rattle.listing_tests.specs.Asked.{Roomy};
 
 use answers::Answer;
 use cases::Tally;
+use std::io::{self, Read};
 
 fn answered(ticket: &[u8], expected: &[u8], buffer: &mut [u8]) -> bool
     ensures { Right (answer ticket.now (length buffer.old)) expected.now result }
@@ -59,16 +60,16 @@ fn holds(ticket: &[u8], expected: &[u8], buffer: &mut [u8]) -> bool
 }
 
 // The next ticket, behind its head.
-fn replay(numbers: &[u64; 64]) -> bool {
+fn replay<R: Read>(reader: &mut R, numbers: &[u64; 64]) -> bool {
     let mut ticket = [0u8; 65540];
     let mut expected = [0u8; 65536];
     let mut buffer = [0u8; 65536];
     let a = numbers[0] as usize;
     let b = numbers[1] as usize;
-    if !cases::read(&mut ticket, a) {
+    if !cases::read(reader, &mut ticket, a) {
         return false;
     }
-    if !cases::read(&mut expected, b) {
+    if !cases::read(reader, &mut expected, b) {
         return false;
     }
     holds(
@@ -78,15 +79,16 @@ fn replay(numbers: &[u64; 64]) -> bool {
     )
 }
 
-fn main() {
+fn main(rt: HostRuntime) -> io::Result<()> {
+    let mut reader = rt.stdin();
     let mut numbers = [0u64; 64];
     let mut t = Tally { ran: 0, failed: 0 };
     while t.ran < 1000000 {
-        let h = cases::block_head(16, 2, &mut numbers);
+        let h = cases::block_head(&mut reader, 16, 2, &mut numbers);
         if h.over {
             break;
         }
-        t = cases::counted(t, h.right && replay(&numbers));
+        t = cases::counted(t, h.right && replay(&mut reader, &numbers));
     }
-    cases::print(t, b"tickets");
+    cases::print(&rt, t, b"tickets")
 }

@@ -1,39 +1,44 @@
 // `lower`: a ticket on standard input; its listing, or `refused,NUMBER,LINE`, on standard output.
+// At most 65,537 bytes are read: a ticket over 65,536 bytes is refused by its length alone, so no more of it is needed.
+// Where a read or a write fails, standard error names the stream, and main returns the error.
 #![tactic(auto)]
 
 ghost use Rattle.std.specs.Prelude.{◌+◌, ◌≤◌, length};
 
 use answers::Answer;
-use libc::{STDIN_FILENO, STDOUT_FILENO};
+use std::io::{self, Read};
 
-// How many bytes were read, and whether a read failed.
+// How many bytes were read, and the error if a read failed.
 #[derive(Drop)]
 struct Got {
     count: usize,
-    failed: bool,
+    failed: Option<io::Error>,
 }
 
 // One read, behind the first `at` bytes.
-fn read_some(text: &mut [u8], at: usize) -> Got
+fn read_some<R: Read>(reader: &mut R, text: &mut [u8], at: usize) -> Got
     requires { at ≤ length text.old }
     ensures { at + result.count ≤ length text.new }
 {
-    let part = &mut text[at..];
-    let got = libc::read(STDIN_FILENO, part);
-    let count = io::count(got, part);
-    Got {
-        count,
-        failed: got < 0,
+    match reader.read(&mut text[at..]) {
+        Ok(count) => Got {
+            count,
+            failed: None,
+        },
+        Err(e) => Got {
+            count: 0,
+            failed: Some(e),
+        },
     }
 }
 
 // Reads until the input ends, a read fails or the text is full: a longer input is not held whole.
-fn read_text(text: &mut [u8]) -> Got
+fn read_text<R: Read>(reader: &mut R, text: &mut [u8]) -> Got
     ensures { result.count ≤ length text.new }
 {
     let mut at: usize = 0;
     while at < text.len() {
-        let got = read_some(text, at);
+        let got = read_some(reader, text, at);
         if got.count == 0 {
             return Got {
                 count: at,
@@ -44,39 +49,41 @@ fn read_text(text: &mut [u8]) -> Got
     }
     Got {
         count: at,
-        failed: false,
+        failed: None,
     }
 }
 
-fn write_refusal(number: u64, line: u64) {
-    io::write_all(STDOUT_FILENO, b"refused,");
-    io::print_decimal(STDOUT_FILENO, number);
-    io::write_all(STDOUT_FILENO, b",");
-    io::print_decimal(STDOUT_FILENO, line);
-    io::write_all(STDOUT_FILENO, b"\n");
+fn write_refusal(rt: &impl Print, number: u64, line: u64) -> io::Result<()> {
+    println!(rt; "refused,{number},{line}")
 }
 
-fn write_listing(listing: &[u8]) {
-    if !io::write_all(STDOUT_FILENO, listing) {
-        os::fail(b"lower: standard output");
-    }
+fn write_listing(rt: &impl Print, listing: &[u8]) -> io::Result<()> {
+    rt.write_all(listing)
 }
 
 // A text over 65,536 bytes is refused by its length alone.
-fn respond(ticket: &[u8]) {
+fn respond(rt: &impl Print, ticket: &[u8]) -> io::Result<()> {
     let mut buffer = [0u8; 65536];
     match compiler::lower(ticket, &mut buffer) {
-        Answer::Refused(number, line) => write_refusal(number, line),
-        Answer::Accepted(n) => write_listing(&buffer[..n]),
+        Answer::Refused(number, line) => write_refusal(rt, number, line),
+        Answer::Accepted(n) => write_listing(rt, &buffer[..n]),
     }
 }
 
-fn main() {
+// Says on standard error which stream failed.
+fn fail(rt: &impl Eprint, what: &str, e: io::Error) -> io::Result<()> {
+    eprintln!(rt; "lower: {what}")?;
+    Err(e)
+}
+
+fn main(rt: HostRuntime) -> io::Result<()> {
     let mut text = [0u8; 65537];
-    let got = read_text(&mut text);
-    if got.failed {
-        os::fail(b"lower: standard input");
-        return;
+    let got = read_text(&mut rt.stdin(), &mut text);
+    if let Some(e) = got.failed {
+        return fail(&rt, "standard input", e);
     }
-    respond(&text[..got.count]);
+    match respond(&rt, &text[..got.count]) {
+        Ok(()) => Ok(()),
+        Err(e) => fail(&rt, "standard output", e),
+    }
 }

@@ -7,6 +7,7 @@ ghost use Rattle.reading_tests.specs.Asked.{Holds};
 
 use cases::Tally;
 use line_checks::limits;
+use std::io::{self, Read};
 use ticket::ReadAnswer;
 
 fn holds(ticket: &[u8], number: u64, line: u64) -> bool
@@ -25,21 +26,23 @@ fn holds(ticket: &[u8], number: u64, line: u64) -> bool
 }
 
 // The next ticket, behind its head.
-fn replay(numbers: &[u64; 64]) -> bool {
+fn replay<R: Read>(reader: &mut R, numbers: &[u64; 64]) -> bool {
     let mut ticket = [0u8; 65538];
     let size = numbers[0] as usize;
-    cases::read(&mut ticket, size) && holds(cases::first(&ticket, size), numbers[1], numbers[2])
+    cases::read(reader, &mut ticket, size)
+        && holds(cases::first(&ticket, size), numbers[1], numbers[2])
 }
 
-fn main() {
+fn main(rt: HostRuntime) -> io::Result<()> {
+    let mut reader = rt.stdin();
     let mut numbers = [0u64; 64];
     let mut t = Tally { ran: 0, failed: 0 };
     while t.ran < 1000000 {
-        let h = cases::line_head(3, &mut numbers);
+        let h = cases::line_head(&mut reader, 3, &mut numbers);
         if h.over {
             break;
         }
-        t = cases::counted(t, h.right && replay(&numbers));
+        t = cases::counted(t, h.right && replay(&mut reader, &numbers));
     }
-    cases::print(t, b"tickets");
+    cases::print(&rt, t, b"tickets")
 }

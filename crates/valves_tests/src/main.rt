@@ -9,6 +9,7 @@ ghost use Rattle.valves.specs.Tickets.{Answers};
 ghost use Rattle.valves_tests.specs.Asked.{asked};
 
 use cases::Tally;
+use std::io::{self, Read};
 use valves::Answer;
 
 fn ticket(kind: u64, n: u64, map: &[u8], buffer: &mut [u8]) -> Answer
@@ -50,16 +51,16 @@ fn holds_within(
 }
 
 // The next map, behind its head.
-fn replay(numbers: &[u64; 64]) -> bool {
+fn replay<R: Read>(reader: &mut R, numbers: &[u64; 64]) -> bool {
     let mut map = [0u8; 1024];
     let mut expected = [0u8; 256];
     let mut buffer = [0u8; 256];
     let size = numbers[3] as usize;
     let answer = numbers[4] as usize;
-    if !cases::read(&mut map, size) {
+    if !cases::read(reader, &mut map, size) {
         return false;
     }
-    if !cases::read(&mut expected, answer) {
+    if !cases::read(reader, &mut expected, answer) {
         return false;
     }
     holds_within(
@@ -72,15 +73,16 @@ fn replay(numbers: &[u64; 64]) -> bool {
     )
 }
 
-fn main() {
+fn main(rt: HostRuntime) -> io::Result<()> {
+    let mut reader = rt.stdin();
     let mut numbers = [0u64; 64];
     let mut t = Tally { ran: 0, failed: 0 };
     while t.ran < 1000000 {
-        let h = cases::block_head(48, 5, &mut numbers);
+        let h = cases::block_head(&mut reader, 48, 5, &mut numbers);
         if h.over {
             break;
         }
-        t = cases::counted(t, h.right && replay(&numbers));
+        t = cases::counted(t, h.right && replay(&mut reader, &numbers));
     }
-    cases::print(t, b"maps");
+    cases::print(&rt, t, b"maps")
 }

@@ -10,8 +10,8 @@ mod answers;
 mod ops;
 
 use cases::{Line, Tally};
-use libc::STDOUT_FILENO;
 use numerics::Quotient;
+use std::io::{self, Read};
 
 fn holds(case: &[u64; 64]) -> bool
     ensures { result ≡ is (answer_of (get_or case.now 0 0) (get_or case.now 1 0) (get_or case.now 2 0) (get_or case.now 3 0)) (get_or case.now 4 0) }
@@ -23,42 +23,44 @@ fn holds(case: &[u64; 64]) -> bool
 }
 
 // Every case of a table is run; a line that is none fails.
-fn run(count: u64) -> Tally
+fn run<R: Read>(reader: &mut R, count: u64) -> Tally
     ensures { result.ran ≡ count }
 {
     let mut case = [0u64; 64];
     let mut t = Tally { ran: 0, failed: 0 };
     while t.ran < count {
-        let h = cases::line_head(5, &mut case);
+        let h = cases::line_head(reader, 5, &mut case);
         t = cases::counted(t, h.right && holds(&case));
     }
     t
 }
 
 // Whether there is a next table.
-fn table() -> bool {
+fn table<R: Read>(rt: &impl Print, reader: &mut R) -> io::Result<bool> {
     let mut name = [0u8; 128];
     let mut count = [0u64; 64];
-    let Line::Bytes(n) = cases::read_line(&mut name) else {
-        return false;
+    let Line::Bytes(n) = cases::read_line(reader, &mut name) else {
+        return Ok(false);
     };
-    let h = cases::line_head(1, &mut count);
+    let h = cases::line_head(reader, 1, &mut count);
     if !h.right {
-        return false;
+        return Ok(false);
     }
-    let t = run(count[0]);
-    io::write_all(STDOUT_FILENO, cases::first(&name, n));
-    io::write_all(STDOUT_FILENO, b": ");
-    cases::print(t, b"cases");
-    true
+    let t = run(reader, count[0]);
+    rt.write_all(cases::first(&name, n))?;
+    rt.write_all(b": ")?;
+    cases::print(rt, t, b"cases")?;
+    Ok(true)
 }
 
-fn main() {
+fn main(rt: HostRuntime) -> io::Result<()> {
+    let mut reader = rt.stdin();
     let mut tables: u64 = 0;
     while tables < 1000 {
-        if !table() {
-            return;
+        if !table(&rt, &mut reader)? {
+            return Ok(());
         }
         tables += 1;
     }
+    Ok(())
 }

@@ -1,5 +1,4 @@
 -- `addressing::allocate_pointer` meets its contract: a storage of two bytes.
-use borrow.Author.Rules.{rules}
 use native.Mathlib.Omega.{arith}
 use Rattle.emission.specs.Temporaries.{place_bytes}
 use Rattle.addressing.proofs.allocate_pointer.Goals as goal

@@ -1,5 +1,4 @@
 -- `emission::add` meets its contract: a carry, then the loop.
-use borrow.Author.Rules.{rules}
 use Rattle.emission.specs.Forms.{does_adding}
 use Rattle.emission.proofs.add.Goals as goal
 

@@ -1,5 +1,4 @@
 -- `emission::add_byte` meets its contract: byte i of a sum.
-use borrow.Author.Rules.{rules}
 use Rattle.emission.proofs.add_byte.Goals as goal
 
 pub returns : goal.returns

@@ -1,5 +1,4 @@
 -- `emission::add_bytes` meets its contract: the definition's list is a table of the form `Add`.
-use borrow.Author.Rules.{rules}
 use Rattle.emission.specs.Loops.{adds_table}
 use Rattle.emission.proofs.add_bytes.Goals as goal
 

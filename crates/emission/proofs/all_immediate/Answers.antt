@@ -1,7 +1,6 @@
 -- `emission::all_immediate` meets its contract: the first byte decides.
 use mathlib.Core.Path.{sym, ◌∙◌}
 use native.Mathlib.Omega.{arith}
-use borrow.Author.Rules.{rules}
 use Rattle.emission.specs.Operands.{all_empty, all_first}
 use Rattle.emission.proofs.all_immediate.Goals as goal
 

@@ -1,5 +1,4 @@
 -- `emission::allocate_bit_temporary` meets its contract: by `allocate_storage`.
-use borrow.Author.Rules.{rules}
 use Rattle.spec.specs.Allocation.{allocate_bit_temporary}
 use Rattle.emission.proofs.allocate_bit_temporary.Goals as goal
 

@@ -1,5 +1,4 @@
 -- `emission::allocate_carry` meets its contract: by `allocate_storage`.
-use borrow.Author.Rules.{rules}
 use Rattle.spec.specs.Allocation.{allocate_carry}
 use Rattle.emission.proofs.allocate_carry.Goals as goal
 

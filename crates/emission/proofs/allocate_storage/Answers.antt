@@ -1,6 +1,5 @@
 -- `emission::allocate_storage` meets its contract: the line printed is the new storage's, with the numbers that `advance` answers.
 use mathlib.Core.Path.{refl}
-use borrow.Author.Rules.{rules}
 use Rattle.spec.specs.Allocation.{allocate_storage}
 use Rattle.lir.specs.Abstract.{storage_kind_of, purpose_of}
 use Rattle.emission.proofs.allocate_storage.Goals as goal

@@ -1,6 +1,5 @@
 -- `emission::allocate_temporary` meets its contract: by the type's number and size.
 use mathlib.Core.Path.{◌∙◌}
-use borrow.Author.Rules.{rules}
 use Rattle.emission.specs.Temporaries.{place_bit, place_sized, place_byte, place_bytes, place_none}
 use Rattle.emission.proofs.allocate_temporary.Goals as goal
 

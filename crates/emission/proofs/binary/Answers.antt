@@ -1,7 +1,6 @@
 -- `emission::binary` meets its contract: refused without a width.
 use mathlib.Core.List.{◌∷◌, []}
 use native.Mathlib.Omega.{arith}
-use borrow.Author.Rules.{rules}
 use Rattle.spec.specs.Arithmetic.{binary_instructions}
 use Rattle.spec.specs.Lir.{integer_binary_bytes}
 use Rattle.lir.specs.Abstract.{binary_op_of, destinations_of, bytes_of}

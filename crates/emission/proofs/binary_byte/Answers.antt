@@ -1,5 +1,4 @@
 -- `emission::binary_byte` meets its contract: byte i of and, or, xor.
-use borrow.Author.Rules.{rules}
 use Rattle.emission.proofs.binary_byte.Goals as goal
 
 pub returns : goal.returns

@@ -1,5 +1,4 @@
 -- `emission::binary_bytes` meets its contract: the definition's list is a table of the form `Binary`.
-use borrow.Author.Rules.{rules}
 use Rattle.emission.specs.Loops.{binary_table}
 use Rattle.emission.proofs.binary_bytes.Goals as goal
 

@@ -1,6 +1,5 @@
 -- `emission::binary_instructions` meets its contract: form by form.
 use native.Mathlib.Omega.{arith}
-use borrow.Author.Rules.{rules}
 use Rattle.spec.specs.Arithmetic.{binary_instructions}
 use Rattle.emission.specs.Does.{does_more, does_emits}
 use Rattle.emission.specs.Forms.{binary_few}

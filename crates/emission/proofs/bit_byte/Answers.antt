@@ -1,5 +1,4 @@
 -- `emission::bit_byte` meets its contract: the bit, or a zero.
-use borrow.Author.Rules.{rules}
 use borrow.Author.Tests.{eq-eqb, ne_eqb}
 use Rattle.emission.proofs.bit_byte.Goals as goal
 

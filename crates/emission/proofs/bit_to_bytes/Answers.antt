@@ -1,5 +1,4 @@
 -- `emission::bit_to_bytes` meets its contract: the definition's list is a table of the form `Bit`.
-use borrow.Author.Rules.{rules}
 use Rattle.emission.specs.Loops.{bit_table}
 use Rattle.emission.proofs.bit_to_bytes.Goals as goal
 

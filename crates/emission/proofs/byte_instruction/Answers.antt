@@ -1,5 +1,4 @@
 -- `emission::byte_instruction` meets its contract: arm by arm.
-use borrow.Author.Rules.{rules}
 use Rattle.emission.proofs.byte_instruction.Goals as goal
 
 pub add_byte-requires : goal.add_byte-requires

@@ -1,5 +1,4 @@
 -- `emission::byte_rotate` meets its contract: test by test.
-use borrow.Author.Rules.{rules}
 use borrow.Author.Tests.{eq-eqb, ne_eqb}
 use Rattle.spec.specs.Arithmetic.{byte_rotate}
 use Rattle.spec.proofs.Lengths.{length_bytes_from}

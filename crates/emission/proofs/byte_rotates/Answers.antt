@@ -1,5 +1,4 @@
 -- `emission::byte_rotates` meets its contract: by the shorter way round.
-use borrow.Author.Rules.{rules}
 use Rattle.emission.specs.Loops.{turn_none, turn_few, turn_back}
 use Rattle.emission.proofs.byte_rotates.Goals as goal
 

@@ -1,6 +1,5 @@
 -- `emission::carry_in` meets its contract: no carry comes into the first byte.
 use mathlib.Core.Path.{sym}
-use borrow.Author.Rules.{rules}
 use Rattle.emission.specs.Kinds.{carry_in_some}
 use Rattle.emission.proofs.carry_in.Goals as goal
 

@@ -1,6 +1,5 @@
 -- `emission::carry_out` meets its contract: no carry goes out of the last destination.
 use mathlib.Core.Path.{sym}
-use borrow.Author.Rules.{rules}
 use Rattle.emission.specs.Kinds.{carry_out_none, carry_out_some}
 use Rattle.emission.proofs.carry_out.Goals as goal
 

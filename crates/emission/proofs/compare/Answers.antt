@@ -1,5 +1,4 @@
 -- `emission::compare` meets its contract: a bit, then the instruction.
-use borrow.Author.Rules.{rules}
 use Rattle.lir.specs.Abstract.{compare_op_of, bytes_of}
 use Rattle.emission.specs.Forms.{does_comparing}
 use Rattle.emission.proofs.compare.Goals as goal

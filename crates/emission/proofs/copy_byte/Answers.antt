@@ -1,5 +1,4 @@
 -- `emission::copy_byte` meets its contract: the instruction made is the definition's.
-use borrow.Author.Rules.{rules}
 use Rattle.emission.proofs.copy_byte.Goals as goal
 
 pub returns : goal.returns

@@ -1,5 +1,4 @@
 -- `emission::copy_bytes` meets its contract: the definition's list is a table of the form `Copy`.
-use borrow.Author.Rules.{rules}
 use Rattle.emission.specs.Loops.{copy_table}
 use Rattle.emission.proofs.copy_bytes.Goals as goal
 

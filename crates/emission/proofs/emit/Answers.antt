@@ -1,6 +1,5 @@
 -- `emission::emit` meets its contract: the line printed is the instruction's.
 use mathlib.Core.Path.{refl}
-use borrow.Author.Rules.{rules}
 use Rattle.lir.specs.Abstract.{kind_of}
 use Rattle.emission.specs.Emits.{emits_one}
 use Rattle.emission.proofs.emit.Goals as goal

@@ -1,5 +1,4 @@
 -- `emission::emit_byte` meets its contract: the instruction made is the form's.
-use borrow.Author.Rules.{rules}
 use Rattle.emission.proofs.emit_byte.Goals as goal
 
 pub returns : goal.returns

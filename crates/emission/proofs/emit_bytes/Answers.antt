@@ -1,10 +1,8 @@
 -- `emission::emit_bytes` meets its contract: the loop has appended the first i entries of the table.
 use mathlib.Core.Path.{◌≡◌, refl}
-use Prim.Native.Nat.{◌-◌, ◌≤◌}
 use native.Mathlib.Omega.{arith}
 use Rattle.lir.specs.PutFields.{length_tab}
-use Rattle.lir.specs.Abstract.{tab}
-use Rattle.emission.specs.Emits.{Emits, table_none, table_more, room_emitted, emits_length}
+use Rattle.emission.specs.Emits.{table_none, table_more, room_emitted}
 use Rattle.emission.specs.Kinds.{byte_kind}
 use Rattle.emission.proofs.emit_bytes.Goals as goal
 

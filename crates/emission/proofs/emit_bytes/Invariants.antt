@@ -1,9 +1,6 @@
-use mathlib.Core.Path.{◌≡◌, refl}
 use Prim.Native.Nat.{◌-◌, ◌≤◌}
-use native.Mathlib.Omega.{arith}
-use Rattle.lir.specs.PutFields.{length_tab}
 use Rattle.lir.specs.Abstract.{tab}
-use Rattle.emission.specs.Emits.{Emits, table_none, table_more, room_emitted, emits_length}
+use Rattle.emission.specs.Emits.{Emits}
 use Rattle.emission.specs.Kinds.{byte_kind}
 use Rattle.emission.proofs.emit_bytes.Given as goal
 

@@ -1,6 +1,5 @@
 -- `emission::emit_select_byte` meets its contract: the line printed is the instruction's.
 use mathlib.Core.Path.{refl}
-use borrow.Author.Rules.{rules}
 use Rattle.lir.specs.Abstract.{kind_of}
 use Rattle.lir.specs.PutFields.{node_put}
 use Rattle.lir.specs.declared.InstructionKind.{InstructionKind}

@@ -1,7 +1,6 @@
 -- `emission::lowest_byte` meets its contract: the first byte decides.
 use mathlib.Core.Path.{sym, ◌∙◌}
 use native.Mathlib.Omega.{arith}
-use borrow.Author.Rules.{rules}
 use Rattle.emission.specs.Operands.{lowest_empty, lowest_first}
 use Rattle.emission.proofs.lowest_byte.Goals as goal
 

@@ -1,6 +1,5 @@
 -- `emission::mask_location` meets its contract: nothing, or one instruction at the last byte.
 use native.Mathlib.Omega.{arith}
-use borrow.Author.Rules.{rules}
 use Rattle.emission.specs.Emits.{emits_none}
 use Rattle.emission.specs.Tabs.{masks_whole, masks_none, masks_last}
 use Rattle.emission.proofs.mask_location.Goals as goal

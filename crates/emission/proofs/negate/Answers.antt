@@ -1,5 +1,4 @@
 -- `emission::negate` meets its contract: a borrow, then the loop.
-use borrow.Author.Rules.{rules}
 use Rattle.emission.specs.Forms.{does_negating}
 use Rattle.emission.proofs.negate.Goals as goal
 

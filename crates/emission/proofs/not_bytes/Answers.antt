@@ -1,5 +1,4 @@
 -- `emission::not_bytes` meets its contract: the definition's list is a table of the form `Not`.
-use borrow.Author.Rules.{rules}
 use Rattle.emission.specs.Loops.{not_table}
 use Rattle.emission.proofs.not_bytes.Goals as goal
 

@@ -1,5 +1,4 @@
 -- `emission::rotate_by_constant` meets its contract: the operand and the distance are the first bytes.
-use borrow.Author.Rules.{rules}
 use Rattle.emission.specs.Operands.{first_byte}
 use Rattle.emission.proofs.rotate_by_constant.Goals as goal
 

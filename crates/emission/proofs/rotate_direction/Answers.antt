@@ -1,5 +1,4 @@
 -- `emission::rotate_direction` meets its contract: case by case.
-use borrow.Author.Rules.{rules}
 use Rattle.spec.specs.Operators.{rotate_direction}
 use Rattle.emission.proofs.rotate_direction.Goals as goal
 

@@ -1,7 +1,6 @@
 -- `emission::rotates_or_shift` meets its contract: by the definition's own test.
 use mathlib.Core.Path.{sym, ◌∙◌}
 use native.Mathlib.Omega.{arith}
-use borrow.Author.Rules.{rules}
 use Rattle.lir.specs.Abstract.{shift_op_of, destinations_of, bytes_of}
 use Rattle.emission.specs.Loops.{turned_one, shift_turned, shift_whole, first_from}
 use Rattle.spec.proofs.Lengths.{length_bytes_from}

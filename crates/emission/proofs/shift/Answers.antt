@@ -1,6 +1,5 @@
 -- `emission::shift` meets its contract: refused without a width.
 use native.Mathlib.Omega.{arith}
-use borrow.Author.Rules.{rules}
 use Rattle.spec.specs.Arithmetic.{binary_instructions, shifts}
 use Rattle.lir.specs.Abstract.{shift_op_of, destinations_of, bytes_of}
 use Rattle.emission.specs.Loops.{shifts_few}

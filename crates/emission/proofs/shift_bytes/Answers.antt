@@ -1,6 +1,5 @@
 -- `emission::shift_bytes` meets its contract: by whether it is a rotate.
 use mathlib.Core.Path.{sym, ap, ◌∙◌}
-use borrow.Author.Rules.{rules}
 use Rattle.emission.specs.Loops.{shift_plain}
 use Rattle.emission.specs.Kinds.{turned_of}
 use Rattle.emission.proofs.shift_bytes.Goals as goal

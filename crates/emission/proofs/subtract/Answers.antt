@@ -1,5 +1,4 @@
 -- `emission::subtract` meets its contract: a borrow, then the loop.
-use borrow.Author.Rules.{rules}
 use Rattle.emission.specs.Forms.{does_subtracting}
 use Rattle.emission.proofs.subtract.Goals as goal
 

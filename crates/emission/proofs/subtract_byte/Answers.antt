@@ -1,5 +1,4 @@
 -- `emission::subtract_byte` meets its contract: byte i of a difference.
-use borrow.Author.Rules.{rules}
 use Rattle.emission.proofs.subtract_byte.Goals as goal
 
 pub returns : goal.returns

@@ -1,5 +1,4 @@
 -- `emission::subtract_bytes` meets its contract: the definition's list is a table of the form `Subtract`.
-use borrow.Author.Rules.{rules}
 use Rattle.emission.specs.Loops.{subtracts_table}
 use Rattle.emission.proofs.subtract_bytes.Goals as goal
 

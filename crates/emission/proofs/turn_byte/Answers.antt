@@ -1,5 +1,4 @@
 -- `emission::turn_byte` meets its contract: a turn of the first byte.
-use borrow.Author.Rules.{rules}
 use Rattle.emission.proofs.turn_byte.Goals as goal
 
 pub returns : goal.returns

@@ -1,5 +1,4 @@
 -- `emission::turns` meets its contract: the definition's list is a table of the form `Turn`.
-use borrow.Author.Rules.{rules}
 use Rattle.emission.specs.Loops.{turn_table}
 use Rattle.emission.proofs.turns.Goals as goal
 

@@ -1,7 +1,6 @@
 -- `emission::unary` meets its contract: refused without a width.
 use mathlib.Core.List.{◌∷◌, []}
 use native.Mathlib.Omega.{arith}
-use borrow.Author.Rules.{rules}
 use Rattle.spec.specs.Arithmetic.{unary_instructions}
 use Rattle.spec.specs.Lir.{integer_unary_bytes}
 use Rattle.lir.specs.Abstract.{unary_op_of, destinations_of, bytes_of}

@@ -1,6 +1,5 @@
 -- `emission::unary_instructions` meets its contract: form by form.
 use native.Mathlib.Omega.{arith}
-use borrow.Author.Rules.{rules}
 use Rattle.spec.specs.Arithmetic.{unary_instructions}
 use Rattle.emission.specs.Does.{does_more, does_emits}
 use Rattle.emission.specs.Forms.{not_few}

@@ -1,5 +1,4 @@
 -- Two numbers and three lists.
-use borrow.Author.Rules.{rules}
 use Rattle.lir.specs.PutFields.{others}
 use Rattle.lir.proofs.binary_fields.Goals as goal
 

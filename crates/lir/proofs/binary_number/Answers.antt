@@ -1,5 +1,4 @@
 -- The number of each case.
-use borrow.Author.Rules.{rules}
 use Rattle.spec.specs.Print.{binary_number}
 use Rattle.lir.proofs.binary_number.Goals as goal
 

@@ -1,5 +1,4 @@
 -- A byte of the run, by its source, or a zero.
-use borrow.Author.Rules.{rules}
 use mathlib.Core.Path.{◌≡◌, ap}
 use Prim.Native.Nat.{◌+◌}
 use native.Mathlib.Omega.{arith}

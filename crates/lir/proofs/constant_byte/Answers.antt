@@ -1,6 +1,5 @@
 -- The invariant: what is left is n divided by 256 once a turn.
 use mathlib.Core.Path.{◌≡◌, sym}
-use Prim.Native.Nat.{◌-◌, ◌/◌, ◌^◌, ◌≤◌}
 use native.Mathlib.Nat.{div-one, div-div-eq-div-mul, pow-suc}
 use native.Mathlib.Numerals.{add-one}
 use native.Mathlib.Omega.{arith}

@@ -1,8 +1,5 @@
-use mathlib.Core.Path.{◌≡◌, sym}
+use mathlib.Core.Path.{◌≡◌}
 use Prim.Native.Nat.{◌-◌, ◌/◌, ◌^◌, ◌≤◌}
-use native.Mathlib.Nat.{div-one, div-div-eq-div-mul, pow-suc}
-use native.Mathlib.Numerals.{add-one}
-use native.Mathlib.Omega.{arith}
 use Rattle.lir.proofs.constant_byte.Given as goal
 
 abbrev pub invariant-loop-k : goal.invariant-loop-k

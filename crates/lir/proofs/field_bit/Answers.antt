@@ -1,5 +1,4 @@
 -- Each case is its own field.
-use borrow.Author.Rules.{rules}
 use Rattle.spec.specs.Print.{bit_operand}
 use Rattle.lir.proofs.field_bit.Goals as goal
 

@@ -1,12 +1,9 @@
 -- The invariant: the count and the first i operands are put.
-use borrow.Author.Rules.{rules}
 use native.Mathlib.Omega.{arith}
-use mathlib.Core.Path.{◌≡◌, refl, ◌∙◌}
-use Prim.Native.Nat.{◌≤◌, ◌-◌}
-use lib.ListN.{length}
+use mathlib.Core.Path.{refl, ◌∙◌}
 use Rattle.spec.specs.Print.{byte_operand}
 use Rattle.lir.specs.Abstract.{byte_at}
-use Rattle.lir.specs.PutFields.{PutFields, items, items_none, items_more, operands_all}
+use Rattle.lir.specs.PutFields.{items_none, items_more, operands_all}
 use Rattle.lir.proofs.field_bytes.Goals as goal
 
 pub loop-i-init : goal.loop-i-init

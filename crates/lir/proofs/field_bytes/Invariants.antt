@@ -1,11 +1,9 @@
-use borrow.Author.Rules.{rules}
-use native.Mathlib.Omega.{arith}
-use mathlib.Core.Path.{◌≡◌, refl, ◌∙◌}
+use mathlib.Core.Path.{◌≡◌}
 use Prim.Native.Nat.{◌≤◌, ◌-◌}
 use lib.ListN.{length}
 use Rattle.spec.specs.Print.{byte_operand}
 use Rattle.lir.specs.Abstract.{byte_at}
-use Rattle.lir.specs.PutFields.{PutFields, items, items_none, items_more, operands_all}
+use Rattle.lir.specs.PutFields.{PutFields, items}
 use Rattle.lir.proofs.field_bytes.Given as goal
 
 abbrev pub invariant-loop-i : goal.invariant-loop-i

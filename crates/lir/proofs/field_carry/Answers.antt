@@ -1,5 +1,4 @@
 -- Each case is its own field.
-use borrow.Author.Rules.{rules}
 use Rattle.lir.specs.PutFields.{field}
 use Rattle.spec.specs.Print.{carry_operand}
 use Rattle.lir.proofs.field_carry.Goals as goal

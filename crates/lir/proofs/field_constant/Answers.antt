@@ -1,5 +1,4 @@
 -- A comma, a number sign and the digits.
-use borrow.Author.Rules.{rules}
 use Rattle.text.specs.Put.{then}
 use Rattle.lir.specs.PutFields.{field}
 use Rattle.lir.proofs.field_constant.Goals as goal

@@ -1,11 +1,8 @@
 -- The invariant: the count and the first i places are put.
-use borrow.Author.Rules.{rules}
 use native.Mathlib.Omega.{arith}
-use mathlib.Core.Path.{◌≡◌, refl, ◌∙◌}
-use Prim.Native.Nat.{◌≤◌, ◌-◌}
-use lib.ListN.{length}
+use mathlib.Core.Path.{refl, ◌∙◌}
 use Rattle.spec.specs.Print.{byte_storage}
-use Rattle.lir.specs.PutFields.{PutFields, spot, items, items_none, items_more, destinations_all}
+use Rattle.lir.specs.PutFields.{spot, items_none, items_more, destinations_all}
 use Rattle.lir.proofs.field_destinations.Goals as goal
 
 pub loop-i-init : goal.loop-i-init

@@ -1,10 +1,8 @@
-use borrow.Author.Rules.{rules}
-use native.Mathlib.Omega.{arith}
-use mathlib.Core.Path.{◌≡◌, refl, ◌∙◌}
+use mathlib.Core.Path.{◌≡◌}
 use Prim.Native.Nat.{◌≤◌, ◌-◌}
 use lib.ListN.{length}
 use Rattle.spec.specs.Print.{byte_storage}
-use Rattle.lir.specs.PutFields.{PutFields, spot, items, items_none, items_more, destinations_all}
+use Rattle.lir.specs.PutFields.{PutFields, spot, items}
 use Rattle.lir.proofs.field_destinations.Given as goal
 
 abbrev pub invariant-loop-i : goal.invariant-loop-i

@@ -1,5 +1,4 @@
 -- A comma and the digits.
-use borrow.Author.Rules.{rules}
 use Rattle.text.specs.Put.{then}
 use Rattle.lir.specs.PutFields.{field}
 use Rattle.lir.proofs.field_number.Goals as goal

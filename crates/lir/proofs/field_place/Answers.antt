@@ -1,5 +1,4 @@
 -- A comma, a storage, a point and an offset.
-use borrow.Author.Rules.{rules}
 use Rattle.text.specs.Put.{then}
 use Rattle.lir.specs.PutFields.{field}
 use Rattle.spec.specs.Print.{byte_storage}

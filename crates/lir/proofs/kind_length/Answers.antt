@@ -1,5 +1,4 @@
 -- The number of each case.
-use borrow.Author.Rules.{rules}
 use Rattle.spec.specs.Print.{kind_length}
 use Rattle.lir.proofs.kind_length.Goals as goal
 

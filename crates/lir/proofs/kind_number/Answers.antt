@@ -1,5 +1,4 @@
 -- The number of each case.
-use borrow.Author.Rules.{rules}
 use Rattle.spec.specs.Print.{kind_number}
 use Rattle.lir.proofs.kind_number.Goals as goal
 

@@ -1,5 +1,4 @@
 -- The line by its parts.
-use borrow.Author.Rules.{rules}
 use Rattle.lir.specs.PutFields.{whole_line, others, field}
 use Rattle.spec.specs.Print.{value_line}
 use Rattle.lir.proofs.print_bit.Goals as goal

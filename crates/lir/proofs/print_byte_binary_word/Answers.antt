@@ -1,5 +1,4 @@
 -- The word of each case.
-use borrow.Author.Rules.{rules}
 use Rattle.spec.specs.Print.{byte_binary_word}
 use Rattle.lir.proofs.print_byte_binary_word.Goals as goal
 

@@ -1,5 +1,4 @@
 -- Its kind, and then its node.
-use borrow.Author.Rules.{rules}
 use Rattle.lir.specs.Abstract.{kind_of}
 use Rattle.lir.specs.PutFields.{node_put}
 use Rattle.lir.proofs.print_instruction.Goals as goal

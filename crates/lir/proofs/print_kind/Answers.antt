@@ -1,5 +1,4 @@
 -- Each arm is its own function.
-use borrow.Author.Rules.{rules}
 use mathlib.Core.Path.{subst}
 use Rattle.lir.specs.Sound.{Sound}
 use Rattle.lir.proofs.print_kind.Goals as goal

@@ -1,5 +1,4 @@
 -- The line by its parts.
-use borrow.Author.Rules.{rules}
 use Rattle.lir.specs.PutFields.{whole_line}
 use Rattle.spec.specs.Print.{narrowed_line}
 use Rattle.lir.proofs.print_narrowed.Goals as goal

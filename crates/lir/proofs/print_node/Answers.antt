@@ -1,5 +1,4 @@
 -- The field, and the line feed behind it.
-use borrow.Author.Rules.{rules}
 use Rattle.text.specs.Put.{then}
 use Rattle.lir.proofs.print_node.Goals as goal
 

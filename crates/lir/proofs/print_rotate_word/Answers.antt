@@ -1,5 +1,4 @@
 -- The word of each case.
-use borrow.Author.Rules.{rules}
 use Rattle.spec.specs.Print.{rotate_word}
 use Rattle.lir.proofs.print_rotate_word.Goals as goal
 

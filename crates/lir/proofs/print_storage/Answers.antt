@@ -1,5 +1,4 @@
 -- The line by its parts.
-use borrow.Author.Rules.{rules}
 use Rattle.lir.specs.PutFields.{whole_line, others}
 use Rattle.spec.specs.Print.{storage_line}
 use Rattle.lir.proofs.print_storage.Goals as goal

@@ -1,5 +1,4 @@
 -- The line by its parts.
-use borrow.Author.Rules.{rules}
 use Rattle.lir.specs.PutFields.{kind_put}
 use Rattle.spec.specs.Print.{instruction_fields}
 use Rattle.lir.proofs.print_subtract.Goals as goal

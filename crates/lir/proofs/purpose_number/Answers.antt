@@ -1,5 +1,4 @@
 -- The number of each case.
-use borrow.Author.Rules.{rules}
 use Rattle.spec.specs.Print.{purpose_number}
 use Rattle.lir.proofs.purpose_number.Goals as goal
 

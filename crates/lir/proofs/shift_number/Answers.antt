@@ -1,5 +1,4 @@
 -- The number of each case.
-use borrow.Author.Rules.{rules}
 use Rattle.spec.specs.Print.{shift_number}
 use Rattle.lir.proofs.shift_number.Goals as goal
 

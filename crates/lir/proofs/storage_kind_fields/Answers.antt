@@ -1,5 +1,4 @@
 -- Three numbers, two of them by their tables.
-use borrow.Author.Rules.{rules}
 use Rattle.lir.proofs.storage_kind_fields.Goals as goal
 
 pub returns : goal.returns

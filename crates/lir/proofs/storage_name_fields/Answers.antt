@@ -1,5 +1,4 @@
 -- Three numbers, one of them by its table.
-use borrow.Author.Rules.{rules}
 use Rattle.lir.proofs.storage_name_fields.Goals as goal
 
 pub returns : goal.returns

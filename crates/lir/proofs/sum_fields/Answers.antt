@@ -1,5 +1,4 @@
 -- A place, two operands, two carries.
-use borrow.Author.Rules.{rules}
 use Rattle.lir.specs.PutFields.{others}
 use Rattle.lir.proofs.sum_fields.Goals as goal
 

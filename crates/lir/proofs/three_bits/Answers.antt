@@ -1,5 +1,4 @@
 -- One field behind the other.
-use borrow.Author.Rules.{rules}
 use Rattle.lir.specs.PutFields.{others}
 use Rattle.lir.proofs.three_bits.Goals as goal
 

@@ -1,5 +1,4 @@
 -- One list behind the other.
-use borrow.Author.Rules.{rules}
 use Rattle.lir.specs.PutFields.{others}
 use Rattle.lir.proofs.two_values.Goals as goal
 

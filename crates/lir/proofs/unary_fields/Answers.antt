@@ -1,5 +1,4 @@
 -- Two numbers and two lists.
-use borrow.Author.Rules.{rules}
 use Rattle.lir.specs.PutFields.{others}
 use Rattle.lir.proofs.unary_fields.Goals as goal
 

@@ -1,5 +1,4 @@
 -- The number of each case.
-use borrow.Author.Rules.{rules}
 use Rattle.spec.specs.Print.{unary_number}
 use Rattle.lir.proofs.unary_number.Goals as goal
 

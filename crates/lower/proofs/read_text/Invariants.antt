@@ -1,0 +1,9 @@
+-- `lower::read_text` reads no further than the text is long.
+use Rattle.std.proofs.Common.{◌-◌, ◌≤◌, length}
+use Rattle.lower.proofs.read_text.Given as goal
+
+abbrev pub invariant-loop-at : goal.invariant-loop-at
+invariant-loop-at g l = l.at ≤ length l.text
+
+abbrev pub decreases-loop-at : goal.decreases-loop-at
+decreases-loop-at g l = length l.text - l.at
