@@ -98,7 +98,7 @@ fn next_storage(a: &mut Allocator) -> StorageId
     StorageId(id)
 }
 
-// The same by value. What lends a struct is proved by hand, so this alone lends the allocator.
+// The same by value: this alone lends the allocator.
 fn advance(storage: u64, temporary: u64) -> Advanced
     requires { (storage + 1 < 2 ^ 64) × (temporary + 1 < 2 ^ 64) }
     ensures { (result.id.0 ≡ storage) × (result.storage ≡ storage + 1) × (result.temporary ≡ temporary + 1) }
