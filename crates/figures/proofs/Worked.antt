@@ -22,7 +22,7 @@ repeated zero l = []
 repeated (suc n) l = l ++ repeated n l
 
 -- the printed case of document 01, with exact room and a byte short; several lines
-pub the-figures-hold :
+pub the_figures_hold :
     (answer (lines_of ("done,3,2,2" ∷ [])) 28 ≡ accepted (lines_of ("1,3,3,3/1,0/1" ∷ "1,2,2,2/1,0/1" ∷ [])))
     × (answer (lines_of ("done,3,2,2" ∷ [])) 27 ≡ refused 28 0)
     × (answer (lines_of ("done,1,10,0" ∷ "done,4,10,7" ∷ [])) 100 ≡ accepted (lines_of ("2,1,4,5/2,9/4" ∷ "2,10,10,10/1,0/1" ∷ [])))
@@ -31,10 +31,10 @@ pub the-figures-hold :
     ≡ accepted (lines_of ("2,0,65535,65535/2,4294836225/4" ∷ "2,0,65535,65535/2,4294836225/4" ∷ [])))
     × (answer (repeated 1000 (lines_of ("done,3,2,2" ∷ []))) 100 ≡ accepted (lines_of ("1000,3,3,3/1,0/1" ∷ "1000,2,2,2/1,0/1" ∷ [])))
 unfolding computing repeated
-the-figures-hold = (refl, refl, refl, refl, refl, refl)
+the_figures_hold = (refl, refl, refl, refl, refl, refl)
 
 -- 41 and 42; the first faulty line decides
-pub the-refusals-hold :
+pub the_refusals_hold :
     (answer [] 100 ≡ refused 41 0)
     × (answer (repeated 1000 (lines_of ("done,3,2,2" ∷ [])) ++ bytes "x") 100 ≡ refused 41 1001)
     × (answer (bytes "done,3,2,2") 100 ≡ refused 42 1)
@@ -45,4 +45,4 @@ pub the-refusals-hold :
     × (answer (lines_of ("done,3,2,2," ∷ [])) 100 ≡ refused 42 1)
     × (answer (lines_of ("done,3,2,2" ∷ "" ∷ [])) 0 ≡ refused 42 2)
 unfolding computing repeated
-the-refusals-hold = (refl, refl, refl, refl, refl, refl, refl, refl, refl)
+the_refusals_hold = (refl, refl, refl, refl, refl, refl, refl, refl, refl)

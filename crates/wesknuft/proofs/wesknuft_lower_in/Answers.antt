@@ -1,5 +1,4 @@
 -- `wesknuft::wesknuft_lower_in` meets its contract: the entry's answer, case by case.
-use borrow.Author.Rules.{rules}
 use mathlib.Core.Path.{refl}
 use native.Mathlib.Omega.{arith}
 use Rattle.wesknuft.proofs.wesknuft_lower_in.Goals as goal
