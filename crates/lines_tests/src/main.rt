@@ -6,7 +6,7 @@
 ghost use Rattle.std.specs.Prelude.{◌≡◌, ◌&&◌, eqb};
 ghost use Rattle.lines.specs.Lines.{storage_line};
 ghost use Rattle.lines.specs.Handed.{place_of};
-ghost use Rattle.lines_tests.specs.Asked.{stands, between, part, refusal as refusal_lem, Gives, Holds};
+ghost use Rattle.lines_tests.specs.Asked.{stands, between, part, refusal as refusal_of, Gives, Holds};
 
 use cases::Tally;
 use lines::Place;
@@ -56,7 +56,7 @@ fn handed_of<'a>(ticket: &'a [u8], listing: &'a [u8], k: u64, s: &[u8], from: u6
 
 // The text that holds the line is named by its number.
 fn handed_in<'a>(ticket: &'a [u8], listing: &'a [u8], k: u64, text: u64, from: u64, to: u64) -> bool
-    ensures { Gives (storage_line ticket.now listing.now k) (part ticket.now listing.now text from to) (refusal_lem text) result }
+    ensures { Gives (storage_line ticket.now listing.now k) (part ticket.now listing.now text from to) (refusal_of text) result }
 {
     if text == 0 {
         return handed_of(ticket, listing, k, ticket, from, to);

@@ -2,7 +2,7 @@
 // ticket's bytes; NUMBER 0 says that reading accepts it. Prints how many ran and how many were answered otherwise.
 #![tactic(auto)]
 
-ghost use Rattle.spec.specs.Read.{read_ticket as read_ticket_lem};
+ghost use Rattle.spec.specs.Read.{read_ticket as ticket_read};
 ghost use Rattle.reading_tests.specs.Asked.{Holds};
 
 use cases::Tally;
@@ -11,7 +11,7 @@ use std::io::{self, Read};
 use ticket::ReadAnswer;
 
 fn holds(ticket: &[u8], number: u64, line: u64) -> bool
-    ensures { Holds (read_ticket_lem ticket.now) number line result }
+    ensures { Holds (ticket_read ticket.now) number line result }
 {
     let mut rows = [0u64; limits::ROWS_LENGTH];
     let mut lists = [0u64; 32769];
