@@ -7,29 +7,20 @@ ghost use Rattle.spec.specs.Allocation.{allocate_sized};
 ghost use Rattle.emission.specs.Appends.{Room};
 ghost use Rattle.emission.specs.Emits.{Emits, Allocates};
 
-use emission::{Allocated, Counters};
+use emission::{Emitter, TEMPORARY_REGIONS};
 use lir::{ByteStorage, InstructionKind, Purpose, StorageId, StorageKind};
 
-// ApplicationRam and ShadowStack.
-const TEMPORARY_REGIONS: u64 = 36;
-
 // A temporary of two bytes, as a pointer has.
-pub fn allocate_pointer(store: &mut [u8], c: Counters) -> Allocated
-    requires { Room 1 c }
-    ensures { Allocates store.old c (allocate_sized 2) result.id.0 store.new result.counters }
+pub fn allocate_pointer(e: &mut Emitter<'_>) -> StorageId
+    requires { Room 1 e.old }
+    ensures { Allocates e.old (allocate_sized 2) result.0 e.new }
 {
-    emission::allocate_storage(
-        store,
-        c,
-        StorageKind::Bytes(2),
-        Purpose::Tmp,
-        TEMPORARY_REGIONS,
-    )
+    e.allocate_storage(StorageKind::Bytes(2), Purpose::Tmp, TEMPORARY_REGIONS)
 }
 
-pub fn function_address(code: &mut [u8], c: Counters, to: StorageId, f: u64) -> Counters
-    requires { Room 1 c }
-    ensures { Emits code.old c (spec-lir.function_address (record { storage = to.0; offset = 0 }) (record { storage = to.0; offset = 1 }) f ∷ []) code.new result }
+pub fn function_address(e: &mut Emitter<'_>, to: StorageId, f: u64)
+    requires { Room 1 e.old }
+    ensures { Emits e.old (spec-lir.function_address (record { storage = to.0; offset = 0 }) (record { storage = to.0; offset = 1 }) f ∷ []) e.new }
 {
     let low = ByteStorage {
         storage: to,
@@ -39,12 +30,12 @@ pub fn function_address(code: &mut [u8], c: Counters, to: StorageId, f: u64) -> 
         storage: to,
         offset: 1,
     };
-    emission::emit(code, c, InstructionKind::FunctionAddress(low, high, f))
+    e.emit(InstructionKind::FunctionAddress(low, high, f));
 }
 
-pub fn address_of(code: &mut [u8], c: Counters, to: StorageId, s: StorageId, o: u64) -> Counters
-    requires { Room 1 c }
-    ensures { Emits code.old c (spec-lir.address_of (record { storage = to.0; offset = 0 }) (record { storage = to.0; offset = 1 }) s.0 o ∷ []) code.new result }
+pub fn address_of(e: &mut Emitter<'_>, to: StorageId, s: StorageId, o: u64)
+    requires { Room 1 e.old }
+    ensures { Emits e.old (spec-lir.address_of (record { storage = to.0; offset = 0 }) (record { storage = to.0; offset = 1 }) s.0 o ∷ []) e.new }
 {
     let low = ByteStorage {
         storage: to,
@@ -54,5 +45,5 @@ pub fn address_of(code: &mut [u8], c: Counters, to: StorageId, s: StorageId, o: 
         storage: to,
         offset: 1,
     };
-    emission::emit(code, c, InstructionKind::AddressOf(low, high, s, o))
+    e.emit(InstructionKind::AddressOf(low, high, s, o));
 }

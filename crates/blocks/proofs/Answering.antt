@@ -1,27 +1,20 @@
 -- What the two lengths decide of the answer.
-use Prim.Native.Nat.{ℕ, ◌%◌, ◌≤◌}
-use mathlib.Core.Path.{◌≡◌}
-use mathlib.Core.List.{List}
-use borrow.Author.Tests.{eqb-true, leb-true}
-use lib.ListN.{length}
+use Rattle.std.proofs.Common.{◌≡◌, ℕ, ◌%◌, List, length, Ok, Err, eq-eqb, le-leb}
 use Rattle.spec.specs.Answer.{accepted, left_in}
+use Rattle.answers.specs.declared.Refused.{Refused}
 use Rattle.blocks.specs.Blocks.{block_length}
 use Rattle.blocks.specs.Shown.{of_tests, answer, Answers, Judged}
-use Rattle.blocks.specs.declared.Answer.{Answer}
-
-pub judged_whole : {n room m : ℕ} → Judged n room (Answer.Accepted m) → n % block_length ≡ 0
-judged_whole (Judged.fits a b) = eqb-true _ _ a
-
-pub judged_room : {n room m : ℕ} → Judged n room (Answer.Accepted m) → n ≤ room
-judged_room (Judged.fits a b) = leb-true _ _ b
+use Rattle.blocks.specs.declared.Refusal.{Refusal}
 
 module _ (f : List ℕ → List ℕ) (input output : List ℕ) where
-  pub answers_refused : {n l : ℕ} → Judged (length input) (length output) (Answer.Refused n l) → Answers f input output output (Answer.Refused n l)
-  unfolding answer of_tests left_in
-  answers_refused (Judged.uneven a) = record { answered = rw a; left = rw a }
-  answers_refused (Judged.short a b) = record { answered = rw (a, b); left = rw (a, b) }
+  pub refused : (e : Refused Refusal) → Judged (length input) (length output) (Err e) → Answers f input output output (Err e)
+  unfolding answer left_in
+  refused e j = record { answered = rw (j.refuses (f input)); left = rw (j.refuses (f input)) }
 
-  pub answers_accepted : {n : ℕ} {output' : List ℕ} → Judged (length input) (length output) (Answer.Accepted n) → length (f input) ≡ length input
-      → output' ≡ left_in (accepted (f input)) output → Answers f input output output' (Answer.Accepted n)
+  pub turned : (output' : List ℕ) → Judged (length input) (length output) (Ok tt) → length (f input) ≡ length input
+      → output' ≡ left_in (accepted (f input)) output → Answers f input output output' (Ok (length input))
   unfolding answer of_tests left_in
-  answers_accepted (Judged.fits a b) e h = record { answered = rw (a, b, e); left = rw (a, b) h }
+  turned output' j e h =
+      let t = eq-eqb (length input % block_length) 0 j.fits.0 in
+      let u = le-leb (length input) (length output) j.fits.1 in
+      record { answered = rw (t, u, e); left = rw (t, u) h }

@@ -4,8 +4,8 @@ pub mod Below
 pub mod Square
 pub mod Words
 pub mod Squares
-pub mod Directions
 pub mod Inverse
+pub mod Directions
 pub mod Filling
 pub mod Answering
 pub mod Mirroring

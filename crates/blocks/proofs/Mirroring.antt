@@ -7,7 +7,8 @@ use native.Mathlib.Nat.{le_of_suc-le-suc, not-suc-le-zero}
 use borrow.Author.Tests.{eqb-true}
 use lib.Dec.{eqb}
 use lib.ListN.{length, get_or, length-map}
-use Rattle.blocks.specs.Blocks.{mirrored, Mirrors, all_mirrored}
+use Rattle.blocks.specs.declared.table.TheConstants.{MIRRORED}
+use Rattle.blocks.specs.Blocks.{bit, packed, mirrored, Mirrors, all_mirrored}
 use Rattle.blocks.proofs.Below.{all_below, below_at}
 
 -- entry x of a table is x mirrored
@@ -16,6 +17,10 @@ entry_mirrored table x = eqb (get_or table x 0) (mirrored x)
 
 pub table_mirrors : (table : List ℕ) → all_below 256 (entry_mirrored table) ≡ true → Mirrors table
 table_mirrors table t = record { entry = λ (x : ℕ) h. eqb-true (get_or table x 0) (mirrored x) (below_at 256 (entry_mirrored table) t x h) }
+
+pub table_is : Mirrors MIRRORED
+unfolding bit packed mirrored all_below
+table_is = table_mirrors MIRRORED refl
 
 -- ---------------------------------------------------------------- a text of bytes
 

@@ -1,15 +1,18 @@
--- Words read from bytes one step apart, the highest first, and written to such bytes.
-use Prim.Native.Nat.{ℕ, suc, ◌+◌, ◌-◌, ◌*◌, ◌/◌, ◌%◌, ◌^◌, ◌≤◌, ◌<◌}
-use mathlib.Core.Path.{◌≡◌, refl, ap₂, ◌∙◌}
+-- Words read from bytes one step apart, and written to such bytes.
+use Prim.Native.Nat.{ℕ, ◌+◌, ◌*◌, ◌/◌, ◌%◌, ◌^◌, ◌≤◌, ◌<◌}
+use mathlib.Core.Path.{◌≡◌, refl, ap, ◌∙◌}
 use mathlib.Core.List.{List}
 use mathlib.Core.Logic.{⊎_elim}
 use native.Mathlib.Omega.{arith}
-use native.Mathlib.Nat.{mul-le-mul_left, mul-suc, lt_of_lt_of_le, pow-le-pow_right, eq-or-lt_of_le}
+use native.Mathlib.Nat.{mul-le-mul_left, mul-suc, eq-or-lt_of_le}
 use lib.ListN.{length, get_or, set, length-set}
 use lib.Seq.{get_or-set_same, get_or-set_other}
-use Rattle.blocks.specs.Blocks.{packed, Bytes}
+use Rattle.std.proofs.Common.{w64, map, div-one}
+use Rattle.std.specs.List.{range_with_len}
+use Rattle.std.proofs.lemmas.List.FromFn.{get_or-map-range_with_len}
+use Rattle.std.specs.Int.{from_le_bytes, to_le_bytes}
+use Rattle.blocks.specs.Blocks.{packed}
 use Rattle.blocks.specs.Words.{word_at, Spread}
-use Rattle.blocks.proofs.Packed.{packed_below}
 
 -- each of eight places is inside
 pub inside : (from step i n : ℕ) → from + step * 7 < n → i < 8 → from + step * i < n
@@ -19,39 +22,20 @@ inside from step i n h g =
 
 -- ---------------------------------------------------------------- reading
 
-abbrev bytes_of : List ℕ → ℕ → ℕ → ℕ → ℕ
-bytes_of xs from step j = get_or xs (from + step * j) 0
-
--- the bytes from i on are in the word
-pub record Read (xs : List ℕ) (from step i word : ℕ) : Type 0 where
-  pub within : i ≤ 8
-  pub so_far : word ≡ packed 256 (8 - i) i (bytes_of xs from step)
-
-module _ {xs : List ℕ} {from step : ℕ} where
-  pub read_none : Read xs from step 8 0
-  unfolding packed
-  read_none = record { within = omega arith; so_far = refl }
-
-  pub read_all : {i word : ℕ} → Read xs from step i word → i ≤ 0 → word ≡ word_at xs from step
-  unfolding word_at
-  read_all {i} c h = c.so_far ∙ ap₂ (λ (n k : ℕ). packed 256 n k (bytes_of xs from step)) (omega arith) (omega arith)
-
-  module _ {i word x : ℕ} (c : Read xs from step i word) (h : 0 < i) (e : x ≡ get_or xs (from + step * (i - 1)) 0) where
-    pub read_more : Read xs from step (i - 1) (x + 256 * word)
-    unfolding packed
-    read_more =
-        let n : 8 - (i - 1) ≡ suc (8 - i) = omega (arith, c.within) in
-        let k : suc (i - 1) ≡ i = omega arith in
-        record { within = omega (arith, c.within); so_far = rw (n, k) (ap₂ (λ (y s : ℕ). y + 256 * s) e c.so_far) }
-
-    -- and the word has at most 64 bits
-    pub read_fits : Bytes xs → x + 256 * word < 2 ^ 64
-    read_fits bytes =
-        let n : 8 - (i - 1) ≤ 8 = omega arith in
-        rw read_more.so_far
-        (lt_of_lt_of_le (packed_below 256 (bytes_of xs from step) (λ (j : ℕ). bytes.below (from + step * j)) (8 - (i - 1)) (i - 1)) (pow-le-pow_right {n = 256} (omega arith) n))
+-- a word's eight bytes, put together
+pub word_is : (bytes xs : List ℕ) (from step : ℕ) → ((i : ℕ) → i < 8 → get_or bytes i 0 ≡ get_or xs (from + step * i) 0) → from_le_bytes w64 bytes ≡ word_at xs from step
+unfolding word_at packed
+word_is bytes xs from step each =
+    rw (each 0 (omega arith), each 1 (omega arith), each 2 (omega arith), each 3 (omega arith), each 4 (omega arith), each 5 (omega arith), each 6 (omega arith), each 7 (omega arith))
+    (omega arith)
 
 -- ---------------------------------------------------------------- writing
+
+-- byte i of a word
+pub byte_is : (word i : ℕ) → i < 8 → get_or (to_le_bytes w64 word) i 0 ≡ word / 2 ^ (8 * i) % 256
+byte_is word i h =
+    let all : to_le_bytes w64 word ≡ map (λ (k : ℕ). word / 2 ^ (8 * k) % 256) (range_with_len 0 8) = rw div-one in
+    ap (λ (l : List ℕ). get_or l i 0) all ∙ get_or-map-range_with_len (λ (k : ℕ). word / 2 ^ (8 * k) % 256) 0 8 i i 0 h (omega arith)
 
 pub spread_none : (word to step : ℕ) (l : List ℕ) → Spread word to step 0 l l
 spread_none word to step l = record { long = refl; there = λ i h. absurd (omega arith); kept = λ j h. refl }

@@ -1,32 +1,50 @@
 -- The answer to every input and every lent output, and what the output then holds.
-use Rattle.std.specs.Prelude.{ℕ, ◌%◌, ◌≡◌, Bool, true, false, List, eqb, leb, length}
-use Rattle.spec.specs.Answer.{refused, accepted, left_in}
-use Rattle.spec.specs.Answer as spec-answer
-use Rattle.blocks.specs.Blocks.{block_length}
-use Rattle.blocks.specs.declared.Answer.{Answer}
+use Rattle.std.specs.Prelude.{ℕ, ◌%◌, ◌≤◌, ◌≡◌, Bool, true, false, List, eqb, leb, length}
+use Rattle.std.specs.Prelude.{Result, Ok, Err, OnOk, IfErr}
+use Rattle.spec.specs.Answer.{Answer, refused, accepted, left_in}
+use Rattle.answers.specs.declared.Refused.{Refused}
+use Rattle.blocks.specs.Blocks.{block_length, transposed, transposed_back}
+use Rattle.blocks.specs.declared.Refusal.{Refusal}
+use Rattle.blocks.specs.declared.Refusal.TheVariants.{Uneven, Short}
+use Rattle.blocks.specs.declared.Direction.{Direction}
+use Rattle.blocks.specs.declared.Direction.TheVariants.{ToValves, ToDays}
 
 -- 39: no whole number of blocks; then 40: longer than the output
-unfoldable pub of_tests : Bool → Bool → List ℕ → spec-answer.Answer
+unfoldable pub of_tests : Bool → Bool → List ℕ → Answer
 of_tests false fits ys = refused 39 0
 of_tests true false ys = refused 40 0
 of_tests true true ys = accepted ys
 
 -- the answer where f is what the input becomes, given the length of the lent output
-unfoldable pub answer : (List ℕ → List ℕ) → List ℕ → ℕ → spec-answer.Answer
+unfoldable pub answer : (List ℕ → List ℕ) → List ℕ → ℕ → Answer
 answer f input room = of_tests (eqb (length input % block_length) 0) (leb (length input) room) (f input)
 
+-- the number of each refusal, as the request has it
+abbrev pub refusal_number : Refusal → ℕ
+refusal_number Uneven = 39
+refusal_number Short = 40
+
+-- the code's answer: a length, or a refusal's number and line
+abbrev pub outcome : Result ℕ (Refused Refusal) → Result ℕ (ℕ × ℕ)
+outcome (Ok n) = Ok n
+outcome (Err e) = Err (refusal_number e.refusal, e.line)
+
 -- of what is accepted the code tells the length
-abbrev pub told : spec-answer.Answer → Answer
-told (refused n l) = Answer.Refused n l
-told (accepted ys) = Answer.Accepted (length ys)
+abbrev pub told : Answer → Result ℕ (ℕ × ℕ)
+told (refused n l) = Err (n, l)
+told (accepted ys) = Ok (length ys)
 
 -- the answer is settled, and so is every byte of the output
-pub record Answers (f : List ℕ → List ℕ) (input output output' : List ℕ) (r : Answer) : Type 0 where
-  pub answered : r ≡ told (answer f input (length output))
+pub record Answers (f : List ℕ → List ℕ) (input output output' : List ℕ) (r : Result ℕ (Refused Refusal)) : Type 0 where
+  pub answered : outcome r ≡ told (answer f input (length output))
   pub left : output' ≡ left_in (answer f input (length output)) output
 
--- what is refused by the two lengths alone, or the length accepted
-pub data Judged (n room : ℕ) : Answer → Type 0 where
-  uneven : eqb (n % block_length) 0 ≡ false → Judged n room (Answer.Refused 39 0)
-  short : eqb (n % block_length) 0 ≡ true → leb n room ≡ false → Judged n room (Answer.Refused 40 0)
-  fits : eqb (n % block_length) 0 ≡ true → leb n room ≡ true → Judged n room (Answer.Accepted n)
+-- what each way makes of an input
+abbrev pub turned : Direction → List ℕ → List ℕ
+turned ToValves = transposed
+turned ToDays = transposed_back
+
+-- the two lengths decide: what is refused is refused whatever the bytes
+pub record Judged (n room : ℕ) (r : Result (Unit {0}) (Refused Refusal)) : Type 0 where
+  pub fits : OnOk r ((n % block_length ≡ 0) × (n ≤ room))
+  pub refuses : IfErr r (λ e. (ys : List ℕ) → of_tests (eqb (n % block_length) 0) (leb n room) ys ≡ refused (refusal_number e.refusal) e.line)

@@ -1,6 +1,9 @@
 -- Eight bytes as a word of 64 bits, and the steps by which the code transposes it as a square of eight by eight bits.
 use Rattle.std.specs.Prelude.{ℕ, ◌+◌, ◌*◌, ◌/◌, ◌%◌, ◌^◌, ◌<◌, ◌≡◌, List, length, get_or}
 use Rattle.std.specs.Int.Bits.{bit_and, bit_xor}
+use Rattle.blocks.specs.declared.Places.{Places}
+use Rattle.blocks.specs.declared.Direction.{Direction}
+use Rattle.blocks.specs.declared.Direction.TheVariants.{ToValves, ToDays}
 use Rattle.blocks.specs.Blocks.{packed}
 
 -- the bits of the mask where the word and the word so much farther on differ
@@ -24,3 +27,8 @@ pub record Spread (word to step n : ℕ) (before after : List ℕ) : Type 0 wher
   pub long : length after ≡ length before
   pub there : (i : ℕ) → i < n → get_or after (to + step * i) 0 ≡ word / 2 ^ (8 * i) % 256
   pub kept : (j : ℕ) → ((i : ℕ) → i < n → j ≡ to + step * i → ⊥) → get_or after j 0 ≡ get_or before j 0
+
+-- where square t is read and where it is written: a byte of each of eight days, 8 apart, and those of eight valves, one behind the other
+abbrev pub places_of : Direction → ℕ → Places × Places
+places_of ToValves t = (record { first = t / 8 * 64 + t % 8; step = 8 }, record { first = t * 8; step = 1 })
+places_of ToDays t = (record { first = t * 8; step = 1 }, record { first = t / 8 * 64 + t % 8; step = 8 })

@@ -3,34 +3,63 @@
 
 mod table;
 
-ghost use Rattle.std.specs.Prelude.{◌≡◌, ◌+◌, ◌*◌, ◌≤◌, ◌<◌, ◌%◌, length};
-ghost use Rattle.spec.specs.Answer.{accepted, left_in};
-ghost use Rattle.blocks.specs.Blocks.{transposed, transposed_back, Mirrors, all_mirrored};
-ghost use Rattle.blocks.specs.Words.{exchanged, transposed_word, word_at, Spread};
-ghost use Rattle.blocks.specs.Shown.{Answers, Judged};
+ghost use Rattle.std.specs.Prelude.{◌≡◌, ◌+◌, ◌*◌, ◌^◌, ◌<◌, length};
+ghost use Rattle.blocks.specs.Blocks.{transposed, transposed_back, all_mirrored};
+ghost use Rattle.blocks.specs.Words.{exchanged, transposed_word, word_at, Spread, places_of};
+ghost use Rattle.blocks.specs.Shown.{refusal_number, turned, Answers, Judged};
 
+use answers::{Numbered, Refused};
 use table::MIRRORED;
 
-#[derive(Drop)]
-pub enum Answer {
-    Refused(u64, u64),
-    Accepted(usize),
+/// Why blocks are refused.
+#[derive(Clone, Copy, Debug, PartialEq, Eq)]
+pub enum Refusal {
+    /// An input that is no whole number of blocks.
+    Uneven,
+    /// An output shorter than the input.
+    Short,
 }
 
-// Whether the lengths of an input and its output are right: 39, then 40.
-fn judge(length: usize, room: usize) -> Answer
+impl Numbered for Refusal {
+    ghost number_of = { refusal_number };
+
+    fn number(&self) -> u64 {
+        match self {
+            Refusal::Uneven => 39,
+            Refusal::Short => 40,
+        }
+    }
+}
+
+// Whether the lengths of an input and its output are right.
+#[tactic(auto, unfolding(crate::specs::Shown::of_tests))]
+fn judge(length: usize, room: usize) -> Result<(), Refused<Refusal>>
     ensures { Judged length room result }
 {
     if length % 64 != 0 {
-        return Answer::Refused(39, 0);
+        return Err(Refused {
+            refusal: Refusal::Uneven,
+            line: 0,
+        });
     }
     if room < length {
-        return Answer::Refused(40, 0);
+        return Err(Refused {
+            refusal: Refusal::Short,
+            line: 0,
+        });
     }
-    Answer::Accepted(length)
+    Ok(())
+}
+
+// Eight places, one step apart.
+#[derive(Clone, Copy)]
+struct Places {
+    first: usize,
+    step: usize,
 }
 
 // Each bit p that the mask has changes places with bit p + distance.
+#[tactic(auto, unfolding(crate::specs::Words::apart, crate::specs::Words::exchanged))]
 fn exchange(word: u64, distance: u64, mask: u64) -> u64
     requires { distance < 64 }
     ensures { result ≡ exchanged word distance mask }
@@ -40,6 +69,7 @@ fn exchange(word: u64, distance: u64, mask: u64) -> u64
 }
 
 // A word as a square of eight by eight bits, transposed: first in squares of two by two, then of four, then the whole.
+#[tactic(auto, unfolding(crate::specs::Words::transposed_word))]
 fn transpose_word(word: u64) -> u64
     ensures { result ≡ transposed_word word }
 {
@@ -48,112 +78,97 @@ fn transpose_word(word: u64) -> u64
     exchange(fours, 28, 0x0000_0000_f0f0_f0f0)
 }
 
-fn wide(byte: u8) -> u64
-    ensures { result ≡ byte }
+// The bytes at these places, the first lowest.
+#[tactic(auto, using(crate::proofs::Words::inside, crate::proofs::Words::word_is))]
+fn read_word(input: &[u8], from: Places) -> u64
+    requires { from.first + from.step * 7 < length input.now }
+    ensures { result ≡ word_at input.now from.first from.step }
 {
-    byte as u64
-}
-
-// Eight bytes one step apart, the first lowest.
-fn read_word(input: &[u8], from: usize, step: usize) -> u64
-    requires { from + step * 7 < length input.now }
-    ensures { result ≡ word_at input.now from step }
-{
-    let mut word: u64 = 0;
-    let mut i: usize = 8;
-    while 0 < i {
-        i -= 1;
-        word = wide(input[from + step * i]) + 256 * word;
+    let mut bytes = [0; 8];
+    for (i, byte) in bytes.iter_mut().enumerate() {
+        *byte = input[from.first + from.step * i];
     }
-    word
+    u64::from_le_bytes(bytes)
 }
 
-// The bytes of a word, the lowest first, to places one step apart.
-fn write_word(output: &mut [u8], to: usize, step: usize, word: u64)
-    requires { (0 < step) × (to + step * 7 < length output.old) }
-    ensures { Spread word to step 8 output.old output.new }
+// The bytes of a word, the lowest first, to these places.
+#[tactic(auto, using(crate::proofs::Words::inside, crate::proofs::Words::spread_none))]
+fn write_word(output: &mut [u8], to: Places, word: u64)
+    requires apart { 0 < to.step }
+    requires inside { to.first + to.step * 7 < length output.old }
+    ensures { Spread word to.first to.step 8 output.old output.new }
 {
-    let mut i: usize = 0;
-    while i < 8 {
-        output[to + step * i] = ((word >> (8 * i)) % 256) as u8;
-        i += 1;
+    for (i, byte) in word.to_le_bytes().iter().enumerate() {
+        output[to.first + to.step * i] = *byte;
     }
 }
 
-// Square t is one byte of each of eight days, for the same eight valves; transposed, they are the bytes of these valves, one behind the other.
-fn transpose_blocks(input: &[u8], output: &mut [u8])
-    requires { (length input.now % 64 ≡ 0) × (length input.now ≤ length output.old) }
-    ensures { output.new ≡ left_in (accepted (transposed input.now)) output.old }
-{
-    let mut t: usize = 0;
-    while t < input.len() / 8 {
-        let word = read_word(input, t / 8 * 64 + t % 8, 8);
-        write_word(output, t * 8, 1, transpose_word(word));
-        t += 1;
+// Which way blocks are transposed.
+#[derive(Clone, Copy)]
+enum Direction {
+    ToValves,
+    ToDays,
+}
+
+impl Direction {
+    // Where square t is read and where it is written: one byte of each of eight days, and those of the same eight valves, one behind the other.
+    fn places(self, t: usize) -> (Places, Places)
+        requires { t < 2 ^ 60 }
+        ensures { result ≡ places_of self t }
+    {
+        let days = Places {
+            first: t / 8 * 64 + t % 8,
+            step: 8,
+        };
+        let valves = Places {
+            first: t * 8,
+            step: 1,
+        };
+        match self {
+            Direction::ToValves => (days, valves),
+            Direction::ToDays => (valves, days),
+        }
     }
 }
 
-// The same squares the other way: what stands one behind the other becomes the bytes of eight days.
-fn restore_blocks(input: &[u8], output: &mut [u8])
-    requires { (length input.now % 64 ≡ 0) × (length input.now ≤ length output.old) }
-    ensures { output.new ≡ left_in (accepted (transposed_back input.now)) output.old }
+// A square transposed is the same eight bytes the other way.
+fn transpose_blocks(
+    way: Direction,
+    input: &[u8],
+    output: &mut [u8],
+) -> Result<usize, Refused<Refusal>>
+    ensures { Answers (turned way) input.now output.old output.new result }
 {
-    let mut t: usize = 0;
-    while t < input.len() / 8 {
-        let word = read_word(input, t * 8, 1);
-        write_word(output, t / 8 * 64 + t % 8, 8, transpose_word(word));
-        t += 1;
+    judge(input.len(), output.len())?;
+    for t in 0..input.len() / 8 {
+        let (from, to) = way.places(t);
+        let word = read_word(input, from);
+        write_word(output, to, transpose_word(word));
     }
+    Ok(input.len())
 }
 
-// The table is lent, so that it is copied once for a call.
-fn mirror_bytes(table: &[u8; 256], input: &[u8], output: &mut [u8])
-    requires { Mirrors table.now × (length input.now ≤ length output.old) }
-    ensures { output.new ≡ left_in (accepted (all_mirrored input.now)) output.old }
-{
-    let mut k: usize = 0;
-    while k < input.len() {
-        output[k] = table[input[k] as usize];
-        k += 1;
-    }
-}
-
-// Each block by valve: byte v has valve v + 1, bit d for day d.
-pub fn transpose(input: &[u8], output: &mut [u8]) -> Answer
+/// Each block by valve: byte v has valve v + 1, bit d for day d.
+pub fn transpose(input: &[u8], output: &mut [u8]) -> Result<usize, Refused<Refusal>>
     ensures { Answers transposed input.now output.old output.new result }
 {
-    match judge(input.len(), output.len()) {
-        Answer::Refused(number, line) => Answer::Refused(number, line),
-        Answer::Accepted(n) => {
-            transpose_blocks(input, output);
-            Answer::Accepted(n)
-        }
-    }
+    transpose_blocks(Direction::ToValves, input, output)
 }
 
-// Each block by day again.
-pub fn transpose_back(input: &[u8], output: &mut [u8]) -> Answer
+/// Each block by day again.
+pub fn transpose_back(input: &[u8], output: &mut [u8]) -> Result<usize, Refused<Refusal>>
     ensures { Answers transposed_back input.now output.old output.new result }
 {
-    match judge(input.len(), output.len()) {
-        Answer::Refused(number, line) => Answer::Refused(number, line),
-        Answer::Accepted(n) => {
-            restore_blocks(input, output);
-            Answer::Accepted(n)
-        }
-    }
+    transpose_blocks(Direction::ToDays, input, output)
 }
 
-// Each byte with its bits in the other order.
-pub fn mirror(input: &[u8], output: &mut [u8]) -> Answer
+/// Each byte with its bits in the other order.
+pub fn mirror(input: &[u8], output: &mut [u8]) -> Result<usize, Refused<Refusal>>
     ensures { Answers all_mirrored input.now output.old output.new result }
 {
-    match judge(input.len(), output.len()) {
-        Answer::Refused(number, line) => Answer::Refused(number, line),
-        Answer::Accepted(n) => {
-            let table = MIRRORED;
-            mirror_bytes(&table, input, output);
-            Answer::Accepted(n)
-        }
+    judge(input.len(), output.len())?;
+    for (k, byte) in input.iter().enumerate() {
+        output[k] = MIRRORED[usize::from(*byte)];
     }
+    Ok(input.len())
 }

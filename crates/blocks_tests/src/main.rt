@@ -4,35 +4,34 @@
 #![tactic(auto)]
 
 ghost use Rattle.std.specs.Prelude.{◌≡◌, length};
-ghost use Rattle.blocks.specs.Shown.{Answers};
+ghost use Rattle.blocks.specs.Shown.{outcome, Answers};
 ghost use Rattle.blocks_tests.specs.Asked.{turned, fits, Holds};
 
-use blocks::Answer;
-use cases::Tally;
+use answers::{Numbered, Refused};
+use blocks::Refusal;
 use std::io::{self, Read};
 
-fn answer(call: u64, input: &[u8], output: &mut [u8]) -> Answer
+fn answer(call: u64, input: &[u8], output: &mut [u8]) -> Result<usize, Refused<Refusal>>
     ensures { Answers (turned call) input.now output.old output.new result }
 {
-    if call == 0 {
-        return blocks::transpose(input, output);
+    match call {
+        0 => blocks::transpose(input, output),
+        1 => blocks::transpose_back(input, output),
+        _ => blocks::mirror(input, output),
     }
-    if call == 1 {
-        return blocks::transpose_back(input, output);
-    }
-    blocks::mirror(input, output)
 }
 
 // The answer's number and line, or the length that was accepted.
-fn answered(number: u64, line: u64, length: usize, answer: Answer) -> bool
-    ensures { result ≡ fits number line length answer }
+fn answered(number: u64, line: u64, length: usize, answer: Result<usize, Refused<Refusal>>) -> bool
+    ensures { result ≡ fits number line length (outcome answer) }
 {
     match answer {
-        Answer::Refused(n, l) => n == number && l == line,
-        Answer::Accepted(n) => number == 0 && n == length,
+        Ok(n) => number == 0 && n == length,
+        Err(e) => e.refusal.number() == number && e.line == line,
     }
 }
 
+#[tactic(auto, using(crate::proofs::Laws::holds_so))]
 fn holds(
     call: u64,
     number: u64,
@@ -48,47 +47,34 @@ fn holds(
     answered(number, line, input.len(), a) && fields::same(output, expected)
 }
 
-// Over the first `room` bytes of the output.
-fn holds_within(numbers: &[u64; 64], input: &[u8], output: &mut [u8], expected: &[u8]) -> bool {
-    let room = numbers[2] as usize;
+// Whether the next case holds, over the first `room` bytes of an output.
+fn replay<R: Read>(reader: &mut R) -> Option<bool> {
+    let Ok(head) = cases::block_head::<5, R>(reader, 32)? else {
+        return Some(false);
+    };
+    let [call, length, room, number, line] = head;
+    let mut input = [0; 320];
+    let mut output = [0; 320];
+    let mut expected = [0; 320];
+    let length = length as usize;
+    let room = room as usize;
+    if !cases::read(reader, &mut input, length) || !cases::read(reader, &mut expected, room) {
+        return Some(false);
+    }
     if output.len() < room {
-        return false;
+        return Some(false);
     }
-    let part = &mut output[..room];
-    holds(numbers[0], numbers[3], numbers[4], input, part, expected)
-}
-
-// The next case, behind its head.
-fn replay<R: Read>(reader: &mut R, numbers: &[u64; 64]) -> bool {
-    let mut input = [0u8; 320];
-    let mut output = [0u8; 320];
-    let mut expected = [0u8; 320];
-    let length = numbers[1] as usize;
-    let room = numbers[2] as usize;
-    if !cases::read(reader, &mut input, length) {
-        return false;
-    }
-    if !cases::read(reader, &mut expected, room) {
-        return false;
-    }
-    holds_within(
-        numbers,
+    Some(holds(
+        call,
+        number,
+        line,
         cases::first(&input, length),
-        &mut output,
+        &mut output[..room],
         cases::first(&expected, room),
-    )
+    ))
 }
 
 fn main(rt: HostRuntime) -> io::Result<()> {
-    let mut reader = rt.stdin();
-    let mut numbers = [0u64; 64];
-    let mut t = Tally { ran: 0, failed: 0 };
-    while t.ran < 1000000 {
-        let h = cases::block_head(&mut reader, 32, 5, &mut numbers);
-        if h.over {
-            break;
-        }
-        t = cases::counted(t, h.right && replay(&mut reader, &numbers));
-    }
-    cases::print(&rt, t, b"cases")
+    let tally = cases::run(&mut rt.stdin(), replay);
+    tally.print(&rt, "cases")
 }

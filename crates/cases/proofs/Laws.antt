@@ -1,104 +1,120 @@
--- A head's numbers, a buffer filled and looked at byte by byte, and a refusal's line as it is printed.
-use mathlib.Core.Path.{◌≡◌, refl, sym, ap, ◌∙◌}
-use mathlib.Core.Bool.{Bool, true, false, ◌&&◌}
-use mathlib.Core.List.{List, [], ◌∷◌, ◌++◌, append_assoc, append-nil}
-use mathlib.Core.Option.{Option, none, some}
-use Prim.Native.Nat.{ℕ, zero, suc, ◌+◌, ◌/◌, ◌%◌, ◌^◌, ◌≤◌, ◌<◌}
-use native.Mathlib.Omega.{arith}
-use native.Mathlib.Nat.{pow-suc, zero-add}
-use native.Mathlib.Numerals.{add-one}
-use lib.Dec.{eqb, leb}
-use lib.ListN.{length, get_or, take, drop, set, length-append}
-use lib.Seq.{take-suc-set, take_all, length-sets, sets-eq, take_at}
-use borrow.Author.Tests.{eqb-true, eqb-false, le-leb, lt-leb}
-use Rattle.spec.specs.Text.{bytes, fields, line, digits, same, split, comma, line_feed}
+-- A line's numbers one by one, a buffer filled and looked at byte by byte, and a refusal's line as it is printed.
+use Rattle.std.proofs.Common.{◌≡◌, ℕ, zero, suc, ◌+◌, ◌/◌, ◌%◌, ◌^◌, ◌≤◌, ◌<◌, Bool, true, false, ◌&&◌, List, [], ◌∷◌, ◌++◌, Option, None, Some, length, replicate, get_or, take, drop, set, refl, sym, ap, ◌∙◌, append_assoc, append-nil, length-append, length-take, length-set, ⊎_elim, drop-cons, add-one, eqb, leb, ne_eqb, eq-eqb, arith, eqb-true}
+use Rattle.std.proofs.Math.Nat.{pow-suc}
+use Rattle.std.proofs.lemmas.List.FromFn.{fill_by_all, length-map-range_with_len, get_or-map-range_with_len}
+use Rattle.std.proofs.Math.Seq.{take-suc-set, take_all, length-sets, sets-eq, take_at}
+use Rattle.std.proofs.lemmas.List.{drop_all, length-replicate}
+use Rattle.std.proofs.lemmas.Bool.{cases_lt}
+use Rattle.spec.specs.Text.{bytes, fields, line, digits, same, split, comma, line_feed, number}
 use Rattle.spec.proofs.Digits.{by_digits, digits_one, digits_more}
 use Rattle.spec.specs.Answer.{Answer, refused, accepted}
-use Rattle.tables.specs.Tables.{run}
-use Rattle.tables.proofs.Laws as tables
-use Rattle.fields.specs.Fields.{Listing, fields_from, numbers_of}
-use Rattle.fields.specs.declared.Listed.{Listed}
-use Rattle.fields.proofs.Tabs as tabs
-use Rattle.fields.proofs.Lines.{both_true}
-use Rattle.text.specs.Put.{Put, then, sat_below}
-use Rattle.cases.specs.declared.Line.{Line}
-use Rattle.cases.specs.Cases.{Within, Reads, Heads, mark, filling, kept, refusal, Printed, Refuses, Accepts, Right}
+use Rattle.fields.specs.Fields.{fields_from, numbers_of, cons_number, onto, NumberAt}
+use Rattle.fields.proofs.Marks.{fields_start, fields_none, fields_some}
+use Rattle.fields.proofs.Lines.{first_none, first_some, both_true}
+use Rattle.text.specs.Put.{Put, sat_below}
+use Rattle.text.specs.Writes.{Writes, writes_then}
+use Rattle.text.specs.declared.writer.Writer.{Writer}
+use Rattle.cases.specs.Cases.{exactly, mark, filling, kept, refusal, Printed, Refuses, Accepts, Right}
 
 -- ---------------------------------------------------------------- a head's numbers
 
-same_some : {a b : List ℕ} → ◌≡◌ {A = Option (List ℕ)} (some a) (some b) → a ≡ b
-same_some e = cc
+-- i of n numbers of a line are read, and stand in front of ns; those that are left begin at p
+pub record Heading (s ns : List ℕ) (n i p : ℕ) : Type 0 where
+  pub long : length ns ≡ n
+  pub answer : numbers_of (split comma s) ≡ onto (take i ns) (numbers_of (fields_from s p))
 
-all_fields : (s : List ℕ) → fields_from s 0 ≡ split comma s
-unfolding fields_from
-all_fields s = rw (le-leb 0 (length s) (omega arith))
+pub heading_none : (s : List ℕ) (n : ℕ) → Heading s (replicate n 0) n 0 0
+unfolding onto
+heading_none s n = record { long = length-replicate n 0; answer = rw (fields_start s) (by (numbers_of (fields_from s 0))) }
+  where
+    by : (o : Option (List ℕ)) → o ≡ onto [] o
+    by None = refl
+    by (Some ys) = refl
 
-module _ {s u t : List ℕ} {r : Listed} (p : Listing s 0 u t 0 r) where
-  pub reads_numbers : (n count : ℕ) → r ≡ Listed.Numbers n → Reads s count t (eqb n count)
-  reads_numbers n count e =
-      let a : some (run t 0 n) ≡ numbers_of (split comma s) = rw (e, all_fields s) at p.answer in
+-- a list that is too long or too short is none
+exactly_other : (n : ℕ) (xs : List ℕ) → (length xs ≡ n → ⊥) → None ≡ exactly n (Some xs)
+exactly_other n xs h = rw (ne_eqb (length xs) n h)
+
+module _ {s ns : List ℕ} {n i p : ℕ} (g : Heading s ns n i p) where
+  pub heading_more : (v next : ℕ) → i < n → NumberAt s p (Some (v, next)) → Heading s (set ns i v) n (i + 1) next
+  unfolding onto
+  heading_more v next h a =
+      let l : i < length ns = omega (arith, g.long) in
       record {
-        are = λ g. rw (← eqb-true n count g) (sym a);
-        none = λ g ns q l. eqb-false n count g (sym (tables.length_run t 0 n) ∙ ap length (same_some (a ∙ q)) ∙ l);
+        long = length-set ns i v ∙ g.long;
+        answer = g.answer ∙ rw (first_some (fields_from s p) v (fields_from s next) a.answer, add-one, take-suc-set ns i v l) (by (numbers_of (fields_from s next)));
       }
+    where
+      by : (o : Option (List ℕ)) → onto (take i ns) (cons_number (Some v) o) ≡ onto (take i ns ++ v ∷ []) o
+      by None = refl
+      by (Some ys) = rw (append_assoc (take i ns) (v ∷ []) ys)
 
-  pub reads_none : (count : ℕ) → r ≡ Listed.Broken → Reads s count t false
-  reads_none count e =
-      let a : none ≡ numbers_of (split comma s) = rw (e, all_fields s) at p.answer in
-      record { are = λ g. cc; none = λ g ns q l. let z : ◌≡◌ {A = ℕ} 0 1 = cc in omega arith }
+  -- behind the line's end there is no number more
+  over : length s < p → numbers_of (split comma s) ≡ Some (take i ns)
+  unfolding numbers_of onto
+  over h = g.answer ∙ rw (fields_none s p h, append-nil (take i ns))
 
-pub within_bytes : {got : Line} {n : ℕ} (m : ℕ) → Within got m → got ≡ Line.Bytes n → n ≤ m
-within_bytes m w e = rw e at w
+  pub heading_broken : i < n → NumberAt s p None → None ≡ exactly n (numbers_of (split comma s))
+  unfolding onto
+  heading_broken h a =
+      ⊎_elim
+      (λ (q : length s < p). rw (over q) (exactly_other n (take i ns) (λ e. omega (arith, length-take i ns))))
+      (λ (q : p ≤ length s). rw (g.answer, first_none (fields_from s p) (fields_some s p q) a.answer))
+      (cases_lt (length s) p)
 
-module _ {s : List ℕ} {got : Line} {count : ℕ} {words : List ℕ} where
-  pub heads_bytes : {n : ℕ} {b : Bool} → got ≡ Line.Bytes n → Reads (take n s) count words b → Heads s got count words (record { over = false; right = b })
-  heads_bytes e p = record { is = rw e (refl, p) }
+  pub heading_end : n ≤ i → length s < p → Some ns ≡ exactly n (numbers_of (split comma s))
+  heading_end h q = rw (over q, take_all i ns (omega (arith, g.long)), eq-eqb (length ns) n g.long)
 
-  pub heads_broken : got ≡ Line.Broken → Heads s got count words (record { over = false; right = false })
-  heads_broken e = record { is = rw e (refl, refl) }
+  -- what is left of the line is one number more at least, or none
+  pub heading_rest : n ≤ i → p ≤ length s → None ≡ exactly n (numbers_of (split comma s))
+  unfolding onto numbers_of
+  heading_rest h q = rw g.answer (by (fields_from s p) (fields_some s p q))
+    where
+      by : (ws : List (List ℕ)) → (ws ≡ [] → ⊥) → None ≡ exactly n (onto (take i ns) (numbers_of ws))
+      by [] e = absurd (e refl)
+      by (w ∷ ws) e = go (number w) (numbers_of ws)
+        where
+          go : (x : Option ℕ) (o : Option (List ℕ)) → None ≡ exactly n (onto (take i ns) (cons_number x o))
+          go None o = refl
+          go (Some x) None = refl
+          go (Some x) (Some ys) = exactly_other n (take i ns ++ x ∷ ys) (λ e. omega (arith, length-append (take i ns) (x ∷ ys), length-take i ns, g.long))
 
-  pub heads_end : got ≡ Line.End → Heads s got count words (record { over = true; right = false })
-  heads_end e = record { is = rw e (refl, refl) }
+pub ruleset heading = (heading_none, heading_more, heading_broken, heading_end, heading_rest)
 
 -- ---------------------------------------------------------------- a buffer
 
-pub fill_more : (l : List ℕ) (i v : ℕ) → i < length l → v ≡ mark i → take i l ≡ filling i → take (i + 1) (set l i v) ≡ filling (i + 1)
+pub filled : (l : List ℕ) (n : ℕ) → length l ≡ n → ((k : ℕ) → k < n → get_or l k 0 ≡ mark k) → l ≡ filling n
 unfolding filling
-fill_more l i v h m e = rw (add-one, take-suc-set l i v h, e, m) (sym (tables.tab_more mark 0 i ∙ rw zero-add))
+filled l n h each = fill_by_all mark l n 0 h each
 
-pub fill_end : (l : List ℕ) (i n : ℕ) → length l ≤ i → i ≤ length l → length l ≡ n → take i l ≡ filling i → l ≡ filling n
-fill_end l i n h g m e =
-    let j : i ≡ n = omega arith in
-    sym (take_all i l h) ∙ e ∙ ap filling j
-
-filling_length : (n : ℕ) → n ≡ length (filling n)
+filling_length : (n : ℕ) → length (filling n) ≡ n
 unfolding filling
-filling_length n = sym (tables.length_tab mark 0 n)
+filling_length n = length-map-range_with_len mark 0 n
 
 pub filled_length : {l : List ℕ} {n : ℕ} → l ≡ filling n → length l ≡ n
-filled_length {l} {n} e = ap length e ∙ sym (filling_length n)
+filled_length {l} {n} e = ap length e ∙ filling_length n
 
-filling_at : (n i : ℕ) → i < n → mark i ≡ get_or (filling n) i 0
+filling_at : (n i : ℕ) → i < n → get_or (filling n) i 0 ≡ mark i
 unfolding filling
-filling_at n i h = sym (tables.get_d_tab_in mark 0 0 n i h ∙ rw zero-add)
+filling_at n i h = get_or-map-range_with_len mark 0 n i i 0 h (omega arith)
 
-module _ (l : List ℕ) (from i : ℕ) (p : kept l from ≡ kept l i) where
-  pub kept_end : length l ≤ i → true ≡ kept l from
-  unfolding kept
-  kept_end h = tabs.same_end (kept l from) l (filling (length l)) i p (filling_length (length l)) h
+module _ (l : List ℕ) (i : ℕ) where
+  pub kept_end : length l ≤ i → kept l i ≡ true
+  unfolding kept same
+  kept_end h = rw (drop_all i l h, drop_all i (filling (length l)) (omega (arith, filling_length (length l))))
 
-  pub kept_other : (v : ℕ) → i < length l → v ≡ mark i → (get_or l i 0 ≡ v → ⊥) → false ≡ kept l from
-  unfolding kept
-  kept_other v h m n =
-      tabs.same_other (kept l from) l (filling (length l)) i p (filling_length (length l)) h
-      (λ e. n (e ∙ sym (m ∙ filling_at (length l) i h)))
+  -- what stands there and is to stand there, and what is behind them
+  there : i < length l → kept l i ≡ (eqb (get_or l i 0) (mark i) && kept l (i + 1))
+  unfolding kept same
+  there h =
+      let g : i < length (filling (length l)) = omega (arith, filling_length (length l)) in
+      rw (add-one, drop-cons l i 0 h, drop-cons (filling (length l)) i 0 g, filling_at (length l) i h)
 
-  pub kept_more : (v : ℕ) → i < length l → v ≡ mark i → get_or l i 0 ≡ v → kept l from ≡ kept l (i + 1)
-  unfolding kept
-  kept_more v h m e =
-      tabs.same_more (kept l from) l (filling (length l)) i p (filling_length (length l)) h (e ∙ m ∙ filling_at (length l) i h)
+  pub kept_other : i < length l → (get_or l i 0 ≡ mark i → ⊥) → kept l i ≡ false
+  kept_other h n = there h ∙ rw (ne_eqb (get_or l i 0) (mark i) n)
 
-pub ruleset fill_laws = (fill_more, fill_end, kept_end, kept_other, kept_more)
+  pub kept_more : i < length l → get_or l i 0 ≡ mark i → kept l i ≡ kept l (i + 1)
+  kept_more h e = there h ∙ rw (eq-eqb (get_or l i 0) (mark i) e)
 
 -- ---------------------------------------------------------------- a refusal's line
 
@@ -127,45 +143,20 @@ refusal_length n l h g =
     let b = digits_length l 19 (omega arith) in
     rw (← pieces n l) (simp length-append (omega arith))
 
-pub refusal_printed : {l0 l1 l2 l3 l4 l5 : List ℕ} {p q r s t : ℕ} (n l : ℕ) → n < 2 ^ 64 → l < 2 ^ 64 → 64 ≤ length l0
-    → Put l0 0 (bytes "refused,") l1 p → Put l1 p (digits n) l2 q → Put l2 q (comma ∷ []) l3 r → Put l3 r (digits l) l4 s → Put l4 s (line_feed ∷ []) l5 t
-    → Printed n l l5 t
-refusal_printed {l0} {l5} {t} n l h g k a b c d e =
-    let w : Put l0 0 (refusal n l) l5 t = rw (pieces n l) at (then (then (then (then a b) c) d) e) in
+pub printed : {w w1 w2 w3 w4 w5 : Writer} (n l : ℕ) → n < 2 ^ 64 → l < 2 ^ 64 → 64 ≤ length w.buf.now → w.at ≡ 0
+    → Writes w (bytes "refused,") w1 → Writes w1 (digits n) w2 → Writes w2 (comma ∷ []) w3 → Writes w3 (digits l) w4 → Writes w4 (line_feed ∷ []) w5
+    → Printed n l w5.buf.now w5.at
+printed {w} {w5} n l h g k z a b c d e =
+    let p : Put w.buf.now w.at (refusal n l) w5.buf.now w5.at = rw (pieces n l) at ((writes_then (writes_then (writes_then (writes_then a b) c) d) e).put) in
     let m = refusal_length n l h g in
-    let i : t ≡ length (refusal n l) = w.next ∙ rw (sat_below (0 + length (refusal n l)) (omega (arith, w.fits))) (omega arith) in
-    let j : length l5 ≡ length l0 = ap length w.text ∙ length-sets l0 0 (refusal n l) in
+    let i : w5.at ≡ length (refusal n l) = p.next ∙ rw (z, sat_below (0 + length (refusal n l)) (omega (arith, p.fits))) (omega arith) in
+    let j : length w5.buf.now ≡ length w.buf.now = ap length p.text ∙ length-sets w.buf.now w.at (refusal n l) in
+    let t : w5.buf.now ≡ refusal n l ++ drop (0 + length (refusal n l)) w.buf.now = p.text ∙ rw z (sets-eq (refusal n l) w.buf.now 0 (omega arith)) in
     record {
-      here = rw (i, w.text, sets-eq (refusal n l) l0 0 (omega arith)) (take_at (refusal n l) (drop (0 + length (refusal n l)) l0) (length (refusal n l)) refl);
+      here = rw (i, t) (take_at (refusal n l) (drop (0 + length (refusal n l)) w.buf.now) (length (refusal n l)) refl);
       within = omega arith;
       short = omega arith;
     }
-
--- ---------------------------------------------------------------- one test behind another
-
-both : {a b : Bool} (x y : Bool) → a ≡ x → a ≡ true → b ≡ y → b ≡ (x && y)
-both x y e t f = rw (← e, t) f
-
-not_first : {a : Bool} (x y : Bool) → a ≡ x → a ≡ false → a ≡ (x && y)
-not_first x y e t = rw (← e, t)
-
-module _ {n : ℕ} {e l : List ℕ} where
-  pub refuses_so : {m : ℕ} {a b : Bool} → a ≡ same (refusal n m) e → a ≡ true → b ≡ kept l 0 → Refuses n m e l b
-  refuses_so p t q = record { is = both _ _ p t q }
-
-  pub refuses_not : {m : ℕ} {a : Bool} → a ≡ same (refusal n m) e → a ≡ false → Refuses n m e l a
-  refuses_not p t = record { is = not_first _ _ p t }
-
-  pub accepts_short : length l < n → Accepts n e l false
-  accepts_short h = record { is = rw (lt-leb n (length l) h) }
-
-  pub accepts_so : {a b : Bool} → n ≤ length l → a ≡ same (take n l) e → a ≡ true → b ≡ kept l n → Accepts n e l b
-  accepts_so h p t q = record { is = rw (le-leb n (length l) h) (both _ _ p t q) }
-
-  pub accepts_not : {a : Bool} → n ≤ length l → a ≡ same (take n l) e → a ≡ false → Accepts n e l a
-  accepts_not h p t = record { is = rw (le-leb n (length l) h) (not_first _ _ p t) }
-
-pub ruleset answer_laws = (refuses_so, refuses_not, accepts_short, accepts_so, accepts_not)
 
 -- ---------------------------------------------------------------- a case that holds
 

@@ -1,35 +1,42 @@
 -- What test programs hold an answer to: the bytes expected, in a buffer that is otherwise as it was filled.
-use Rattle.std.specs.Prelude.{ℕ, ◌+◌, ◌*◌, ◌%◌, min, ◌≤◌, ◌≡◌, Bool, true, false, ◌&&◌, List, [], ◌∷◌, leb, length, take, drop}
-use Rattle.std.proofs.Math.Option.{some}
-use Rattle.spec.specs.Text.{bytes, line, digits, same, split, comma}
+use Rattle.std.specs.Prelude.{ℕ, ◌+◌, ◌*◌, ◌%◌, ◌≤◌, ◌≡◌, Bool, true, ◌&&◌, List, [], ◌∷◌, ◌++◌, map, if◌then◌else◌, ◌==◌, leb, length, take, drop}
+use Rattle.std.specs.Prelude.{Option, None, Some, IfSome, Result, IfOk, OnOk}
+use Rattle.std.specs.Io.KnownBytes.{Consumes}
+use Rattle.spec.specs.Text.{bytes, line, digits, same, split, comma, line_feed}
 use Rattle.spec.specs.Answer.{Answer, refused, accepted}
-use Rattle.tables.specs.Tables.{pick, tab, run}
-use Rattle.fields.specs.Fields.{numbers_of}
-use Rattle.cases.specs.declared.Line.{Line}
-use Rattle.cases.specs.declared.Head.{Head}
-use Rattle.cases.specs.declared.Tally.{Tally}
+use Rattle.std.specs.List.{range_with_len}
+use Rattle.fields.specs.Fields.{numbers_of, index, Found}
+use Rattle.cases.specs.declared.Broken.{Broken}
 
 -- ---------------------------------------------------------------- a case's head
 
--- a line's bytes stand in a slice of m
-abbrev pub Within : Line → ℕ → Type 0
-Within (Line.Bytes n) m = n ≤ m
-Within Line.Broken m = Unit {0}
-Within Line.End m = Unit {0}
+-- a list of that length, or none
+abbrev pub exactly : ℕ → Option (List ℕ) → Option (List ℕ)
+exactly n None = None
+exactly n (Some xs) = if length xs == n then Some xs else None
 
--- a line is as many numbers, which stand in front of the words; or it is not
-pub record Reads (s : List ℕ) (count : ℕ) (words : List ℕ) (r : Bool) : Type 0 where
-  pub are : r ≡ true → numbers_of (split comma s) ≡ some (run words 0 count)
-  pub none : r ≡ false → (ns : List ℕ) → numbers_of (split comma s) ≡ some ns → length ns ≡ count → ⊥
+-- the first n bytes of a slice are those that the reader gave
+pub record Gives (known known' : Option (List ℕ)) (bytes : List ℕ) (n : ℕ) : Type 0 where
+  pub long : n ≤ length bytes
+  pub given : Consumes known known' (take n bytes)
 
-abbrev pub HeadCase : List ℕ → Line → ℕ → List ℕ → Head → Type 0
-HeadCase s (Line.Bytes n) count words r = (r.over ≡ false) × Reads (take n s) count words r.right
-HeadCase s Line.Broken count words r = (r.over ≡ false) × (r.right ≡ false)
-HeadCase s Line.End count words r = (r.over ≡ true) × (r.right ≡ false)
+-- a line that is read stands in front of a slice, and the reader gave it with its line feed
+pub record GivesLine (known known' : Option (List ℕ)) (line : List ℕ) (r : Option (Result ℕ Broken)) : Type 0 where
+  pub long : IfSome r (λ l. IfOk l (λ n. n ≤ length line))
+  pub given : IfSome r (λ l. IfOk l (λ n. Consumes known known' (take n line ++ line_feed ∷ [])))
 
--- a head is right if its line is as many numbers, and over where there is none
-pub record Heads (s : List ℕ) (got : Line) (count : ℕ) (words : List ℕ) (r : Head) : Type 0 where
-  pub is : HeadCase s got count words r
+-- a line that is read stands in front of a block, up to the first line feed, and the reader gave the block
+pub record GivesBlock (known known' : Option (List ℕ)) (block : List ℕ) (r : Option (Result ℕ Broken)) : Type 0 where
+  pub long : IfSome r (λ l. IfOk l (λ n. Found block 0 line_feed n))
+  pub given : IfSome r (λ l. OnOk l (Consumes known known' block))
+
+-- a head is the numbers of a line that the reader gave with its line feed
+pub record LineHead (known known' : Option (List ℕ)) (count : ℕ) (r : Option (Result (List ℕ) Broken)) : Type 0 where
+  pub given : IfSome r (λ h. IfOk h (λ ns. (line : List ℕ) × Consumes known known' (line ++ line_feed ∷ []) × (exactly count (numbers_of (split comma line)) ≡ Some ns)))
+
+-- a head is the numbers of what stands before the first line feed of a block that the reader gave
+pub record BlockHead (known known' : Option (List ℕ)) (size count : ℕ) (r : Option (Result (List ℕ) Broken)) : Type 0 where
+  pub given : IfSome r (λ h. IfOk h (λ ns. (block : List ℕ) × (length block ≡ size) × Consumes known known' block × (exactly count (numbers_of (split comma (take (index line_feed block) block))) ≡ Some ns)))
 
 -- ---------------------------------------------------------------- a buffer
 
@@ -38,7 +45,7 @@ unfoldable pub mark : ℕ → ℕ
 mark i = (i % 256 * 31 + 7) % 256
 
 unfoldable pub filling : ℕ → List ℕ
-filling n = tab mark 0 n
+filling n = map mark (range_with_len 0 n)
 
 -- from a position on, the bytes are as they were filled
 unfoldable pub kept : List ℕ → ℕ → Bool
@@ -72,14 +79,3 @@ pub record Refuses (number line : ℕ) (expected buffer : List ℕ) (r : Bool) :
 -- the first n bytes are those expected, and the others as they were filled
 pub record Accepts (n : ℕ) (expected buffer : List ℕ) (r : Bool) : Type 0 where
   pub is : r ≡ (leb n (length buffer) && same (take n buffer) expected && kept buffer n)
-
--- ---------------------------------------------------------------- the count
-
--- a count stops at the largest number
-abbrev pub more : ℕ → ℕ
-more n = min (n + 1) 18446744073709551615
-
--- one case more; one that does not hold is counted as failed
-pub record Counted (t : Tally) (held : Bool) (r : Tally) : Type 0 where
-  pub ran : r.ran ≡ more t.ran
-  pub failed : r.failed ≡ pick held t.failed (more t.failed)

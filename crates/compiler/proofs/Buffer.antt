@@ -4,7 +4,7 @@ use Prim.Native.Nat.{ℕ}
 use mathlib.Core.Path.{◌≡◌, refl, sym, ap, ◌∙◌}
 use mathlib.Core.Bool.{true}
 use mathlib.Core.List.{List, ◌++◌}
-use mathlib.Core.Option.{some}
+use Rattle.std.specs.Prelude.{Some, Ok, Err}
 use native.Mathlib.Omega.{arith}
 use lib.ListN.{length, take, drop}
 use lib.Seq.{length-take-le, drop_at}
@@ -20,7 +20,8 @@ use Rattle.spec.specs.Answer.{accepted, of_reading, answer, left_in}
 use Rattle.spec.specs.Answer as spec-answer
 use Rattle.spec.proofs.Demand2.{demand_2, whole_expression}
 use Rattle.spec.proofs.Demand3.{demand_3}
-use Rattle.answers.specs.declared.Answer.{Answer}
+use Rattle.answers.specs.declared.Refusal.{Refusal}
+use Rattle.answers.specs.declared.Refused.{Refused}
 use Rattle.answers.specs.Answers.{Answers}
 
 -- the tables of a ticket that is accepted
@@ -38,11 +39,11 @@ read_of ticket s room e = by (read_ticket ticket) refl e
 
 module _ (ticket buffer buffer' : List ℕ) where
   -- a refusal writes nothing
-  pub refusal_of_buffer : (n l : ℕ) → Answers (answer ticket (length buffer)) buffer buffer' (Answer.Refused n l) → buffer' ≡ buffer
+  pub refusal_of_buffer : (x : Refused Refusal) → Answers (answer ticket (length buffer)) buffer buffer' (Err x) → buffer' ≡ buffer
   unfolding left_in
-  refusal_of_buffer n l a = a.left ∙ ap (λ (z : spec-answer.Answer). left_in z buffer) (sym a.answer)
+  refusal_of_buffer x a = a.left ∙ ap (λ (z : spec-answer.Answer). left_in z buffer) (sym a.answer)
 
-  module _ (k : ℕ) (a : Answers (answer ticket (length buffer)) buffer buffer' (Answer.Accepted k)) where
+  module _ (k : ℕ) (a : Answers (answer ticket (length buffer)) buffer buffer' (Ok k)) where
     -- bytes behind the listing keep their content
     pub rest_of_buffer : drop k buffer' ≡ drop k buffer
     unfolding left_in
@@ -61,12 +62,12 @@ module _ (ticket buffer buffer' : List ℕ) where
 
     -- DEMAND 2: run, they leave the number of the WebAssembly specification
     pub demand_2_of_buffer : (T : Tables) → read_ticket ticket ≡ reading.accepted T → single_operation (root T) ≡ true → typed T (root T) ≡ true
-        → (G : Given) (M : Memory) → Proper M → in_order T M (root T) ≡ true → (d : Data) → eval T G M (root T) ≡ some d
+        → (G : Given) (M : Memory) → Proper M → in_order T M (root T) ≡ true → (d : Data) → eval T G M (root T) ≡ Some d
         → Leaves G M (length T.storages) (take k buffer') d
     demand_2_of_buffer T e = demand_2 ticket buffer (take k buffer') T e (sym a.answer)
 
     -- the same of a whole expression
     pub whole_expression_of_buffer : (T : Tables) → read_ticket ticket ≡ reading.accepted T → typed T (root T) ≡ true
-        → (G : Given) (M : Memory) → Proper M → in_order T M (root T) ≡ true → (d : Data) → eval T G M (root T) ≡ some d
+        → (G : Given) (M : Memory) → Proper M → in_order T M (root T) ≡ true → (d : Data) → eval T G M (root T) ≡ Some d
         → Leaves G M (length T.storages) (take k buffer') d
     whole_expression_of_buffer T e = whole_expression ticket buffer (take k buffer') T e (sym a.answer)

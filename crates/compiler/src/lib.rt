@@ -3,158 +3,62 @@
 // The work is done in slices that the caller lends; only the words for keys and a mark for each storage are cleared.
 #![tactic(auto)]
 
-ghost use Rattle.std.specs.Prelude.{◌≡◌, ℕ, ◌-◌, ◌*◌, ◌≤◌, length, drop, get_or};
-ghost use Rattle.spec.specs.Readable.{Readable};
+ghost use Rattle.std.specs.Prelude.{◌≡◌, ◌*◌, ◌≤◌, length};
 ghost use Rattle.spec.specs.Lower.{lowered};
 ghost use Rattle.spec.specs.Answer.{answer, of_lowering};
-ghost use Rattle.tables.specs.Tables.{tables_of, node_line, Sized};
-ghost use Rattle.reads.specs.Reading.{weight_of};
+ghost use Rattle.tables.specs.Ticket.{ticket_of};
 ghost use Rattle.answers.specs.Answers.{Answers};
-ghost use Rattle.compiler.specs.Tries.{Tries, tried_of};
+ghost use Rattle.compiler.specs.Tries.{Tries};
 ghost use Rattle.compiler.specs.Lent.{FewWords, FewRead, FewRows, Short};
-ghost use Rattle.sections.specs.Sections.{all_weights, Ready};
+ghost use Rattle.sections.specs.Sections.{all_weights};
 
-use answers::Answer;
+use answers::{Refusal, Refused};
 use line_checks::keys::key_lines;
 use line_checks::limits;
-use tables::Counts;
-use ticket::ReadAnswer;
+use tables::Tables;
+use ticket::ReadError;
 use ticket::reading::read_ticket;
 
-// As Answer, or that the words lent were too few.
-#[derive(Drop)]
-pub enum Tried {
-    Refused(u64, u64),
-    Accepted(usize),
-    NoRoom,
-}
-
-// A node's value has at most so many records.
-fn node_weight(rows: &[u64], nodes: &[u64], lists: &[u64], counts: Counts, k: u64) -> u64
-    requires { Sized counts }
-    ensures { result ≡ weight_of (tables_of rows.now nodes.now lists.now counts) (node_line nodes.now lists.now counts k).type }
+// The records of all nodes' values.
+fn weights(tables: &Tables<'_>) -> u64
+    ensures { result ≡ all_weights (ticket_of tables.now) }
 {
-    let ty = tables::node_type(nodes, lists, counts, k);
-    tables::type_weight(rows, counts, ty)
-}
-
-// And all of them together.
-fn weights(rows: &[u64], nodes: &[u64], lists: &[u64], counts: Counts) -> u64
-    requires { Readable (tables_of rows.now nodes.now lists.now counts) }
-    ensures { result ≡ all_weights (tables_of rows.now nodes.now lists.now counts) }
-{
-    let mut sum: u64 = 0;
-    let mut k: u64 = 0;
-    while k < counts.nodes {
-        sum += node_weight(rows, nodes, lists, counts, k);
-        k += 1;
+    let mut sum = 0;
+    for k in 0..tables.counts.nodes {
+        sum += tables.type_weight(tables.node_type(k));
     }
     sum
-}
-
-// ---------------------------------------------------------------- lent words
-
-// Every word 0.
-fn clear(words: &mut [u64])
-    ensures { (i : ℕ) → get_or words.new i 0 ≡ 0 }
-{
-    let mut i: usize = 0;
-    while i < words.len() {
-        words[i] = 0;
-        i += 1;
-    }
 }
 
 // The words for keys, behind the rows: what stands in them makes reading slow, and not wrong.
 fn clear_keys(rows: &mut [u64]) {
     let at = rows.len() / 40 * 36;
     let end = at + key_lines(rows.len()) * 4;
-    clear(&mut rows[at..end]);
+    rows[at..end].fill(0);
 }
 
-fn as_tried(answer: Answer) -> Tried
-    ensures { result ≡ tried_of answer }
-{
-    match answer {
-        Answer::Refused(n, l) => Tried::Refused(n, l),
-        Answer::Accepted(k) => Tried::Accepted(k),
-    }
-}
-
-// What was read, over marks that are cleared first.
-fn lower_marked(
-    rows: &[u64],
-    nodes: &[u64],
-    lists: &[u64],
-    counts: Counts,
+// What was read: it takes a mark for each storage, and eight words for each record.
+fn lower_read(
+    tables: &Tables<'_>,
     code: &mut [u8],
     store: &mut [u8],
     narrowed: &mut [u64],
     stack: &mut [u64],
     buffer: &mut [u8],
-) -> Answer
-    requires { (Ready (tables_of rows.now nodes.now lists.now counts) stack.old) × (counts.storages ≤ length narrowed.old) }
-    ensures { Answers (of_lowering (tables_of rows.now nodes.now lists.now counts) (length buffer.old) (lowered (tables_of rows.now nodes.now lists.now counts))) buffer.old buffer.new result }
+) -> Result<usize, ReadError>
+    ensures { Tries (of_lowering (ticket_of tables.now) (length buffer.old) (lowered (ticket_of tables.now))) (FewWords (ticket_of tables.now) (length narrowed.old) (length stack.old)) ⊥ buffer.old buffer.new result }
 {
-    clear(narrowed);
-    sections::lower_tables(
-        rows, nodes, lists, counts, code, store, narrowed, stack, buffer,
-    )
-}
-
-// A mark for each storage, and eight words for each record.
-fn lower_counted(
-    rows: &[u64],
-    nodes: &[u64],
-    lists: &[u64],
-    counts: Counts,
-    code: &mut [u8],
-    store: &mut [u8],
-    narrowed: &mut [u64],
-    stack: &mut [u64],
-    buffer: &mut [u8],
-) -> Tried
-    requires { Readable (tables_of rows.now nodes.now lists.now counts) }
-    ensures { Tries (of_lowering (tables_of rows.now nodes.now lists.now counts) (length buffer.old) (lowered (tables_of rows.now nodes.now lists.now counts))) (FewWords (tables_of rows.now nodes.now lists.now counts) (length narrowed.old) (length stack.old)) ⊥ buffer.old buffer.new result }
-{
-    let marks = counts.storages as usize;
-    if narrowed.len() < marks {
-        return Tried::NoRoom;
+    let storages = tables.counts.storages as usize;
+    if narrowed.len() < storages {
+        return Err(ReadError::NoRoom);
     }
-    if (stack.len() as u64) / 8 < weights(rows, nodes, lists, counts) {
-        return Tried::NoRoom;
+    if (stack.len() as u64) / 8 < weights(tables) {
+        return Err(ReadError::NoRoom);
     }
-    as_tried(lower_marked(
-        rows,
-        nodes,
-        lists,
-        counts,
-        code,
-        store,
-        &mut narrowed[..marks],
-        stack,
-        buffer,
-    ))
-}
-
-// The nodes' rows begin behind one of each other kind.
-fn lower_rows(
-    rows: &[u64],
-    lists: &[u64],
-    counts: Counts,
-    code: &mut [u8],
-    store: &mut [u8],
-    narrowed: &mut [u64],
-    stack: &mut [u64],
-    buffer: &mut [u8],
-) -> Tried
-    requires { (30 ≤ length rows.now) × (Readable (tables_of rows.now (drop 30 rows.now) lists.now counts)) }
-    ensures { Tries (of_lowering (tables_of rows.now (drop 30 rows.now) lists.now counts) (length buffer.old) (lowered (tables_of rows.now (drop 30 rows.now) lists.now counts))) (FewWords (tables_of rows.now (drop 30 rows.now) lists.now counts) (length narrowed.old) (length stack.old)) ⊥ buffer.old buffer.new result }
-{
-    let nodes = &rows[30..];
-    lower_counted(
-        rows, nodes, lists, counts, code, store, narrowed, stack, buffer,
-    )
+    let marks = &mut narrowed[..storages];
+    marks.fill(0);
+    let end = sections::lower_tables(tables, code, store, marks, stack, buffer)?;
+    Ok(end)
 }
 
 // The same of a text that the lists are long enough for.
@@ -167,17 +71,17 @@ fn lower_with(
     narrowed: &mut [u64],
     code: &mut [u8],
     store: &mut [u8],
-) -> Tried
+) -> Result<usize, ReadError>
     requires { (40 ≤ length rows.old) × (length ticket.now ≤ length lists.old * 2) }
     ensures { Tries (answer ticket.now (length buffer.old)) (FewRead ticket.now (length narrowed.old) (length stack.old)) (FewRows (length rows.old)) buffer.old buffer.new result }
 {
-    match read_ticket(ticket, rows, lists) {
-        ReadAnswer::Refused(n, l) => Tried::Refused(n, l),
-        ReadAnswer::Accepted(counts) => lower_rows(
-            rows, lists, counts, code, store, narrowed, stack, buffer,
-        ),
-        ReadAnswer::NoRoom => Tried::NoRoom,
-    }
+    let counts = read_ticket(ticket, rows, lists)?;
+    let tables = Tables {
+        rows,
+        lists,
+        counts,
+    };
+    lower_read(&tables, code, store, narrowed, stack, buffer)
 }
 
 // The listing of the ticket's lowering, in the buffer, and its length; or the refusal's number and line, and nothing is written; or that
@@ -195,24 +99,27 @@ pub fn lower_in(
     narrowed: &mut [u64],
     code: &mut [u8],
     store: &mut [u8],
-) -> Tried
+) -> Result<usize, ReadError>
     ensures { Tries (answer ticket.now (length buffer.old)) (Short ticket.now (length lists.old) (length narrowed.old) (length stack.old)) (FewRows (length rows.old)) buffer.old buffer.new result }
 {
     if limits::TEXT_LIMIT < ticket.len() {
-        return Tried::Refused(1, 0);
+        return Err(ReadError::Refused(Refused {
+            refusal: Refusal::LongText,
+            line: 0,
+        }));
     }
     if lists.len() < ticket.len() - ticket.len() / 2 {
-        return Tried::NoRoom;
+        return Err(ReadError::NoRoom);
     }
     if rows.len() < 40 {
-        return Tried::NoRoom;
+        return Err(ReadError::NoRoom);
     }
     clear_keys(rows);
     lower_with(ticket, buffer, rows, lists, stack, narrowed, code, store)
 }
 
 // The same in few words of its own, which are enough for most tickets.
-fn lower_small(ticket: &[u8], buffer: &mut [u8]) -> Tried
+fn lower_small(ticket: &[u8], buffer: &mut [u8]) -> Result<usize, ReadError>
     ensures { Tries (answer ticket.now (length buffer.old)) ⊥ (Unit {0}) buffer.old buffer.new result }
 {
     let mut rows = [0u64; 1280];
@@ -234,7 +141,7 @@ fn lower_small(ticket: &[u8], buffer: &mut [u8]) -> Tried
 }
 
 // The same in as many as are enough for every ticket.
-fn lower_large(ticket: &[u8], buffer: &mut [u8]) -> Answer
+fn lower_large(ticket: &[u8], buffer: &mut [u8]) -> Result<usize, Refused<Refusal>>
     ensures { Answers (answer ticket.now (length buffer.old)) buffer.old buffer.new result }
 {
     let mut rows = [0u64; limits::ROWS_LENGTH];
@@ -253,19 +160,23 @@ fn lower_large(ticket: &[u8], buffer: &mut [u8]) -> Answer
         &mut code,
         &mut store,
     ) {
-        Tried::Refused(n, l) => Answer::Refused(n, l),
-        Tried::Accepted(k) => Answer::Accepted(k),
-        Tried::NoRoom => Answer::Refused(0, 0),
+        Ok(end) => Ok(end),
+        Err(ReadError::Refused(refused)) => Err(refused),
+        // These words are enough for every ticket: any refusal may stand here.
+        Err(ReadError::NoRoom) => Err(Refused {
+            refusal: Refusal::LongText,
+            line: 0,
+        }),
     }
 }
 
 // The same with no words lent.
-pub fn lower(ticket: &[u8], buffer: &mut [u8]) -> Answer
+pub fn lower(ticket: &[u8], buffer: &mut [u8]) -> Result<usize, Refused<Refusal>>
     ensures { Answers (answer ticket.now (length buffer.old)) buffer.old buffer.new result }
 {
     match lower_small(ticket, buffer) {
-        Tried::Refused(n, l) => Answer::Refused(n, l),
-        Tried::Accepted(k) => Answer::Accepted(k),
-        Tried::NoRoom => lower_large(ticket, buffer),
+        Ok(end) => Ok(end),
+        Err(ReadError::Refused(refused)) => Err(refused),
+        Err(ReadError::NoRoom) => lower_large(ticket, buffer),
     }
 }

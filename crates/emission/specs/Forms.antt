@@ -1,7 +1,7 @@
 -- The forms of `binary_instructions` and `unary_instructions`, and the part of comparing behind `integer_width` and `value_bytes`.
 use Rattle.std.specs.Prelude.{◌≡◌, refl, List, ◌∷◌, [], ℕ, ◌+◌, ◌%◌, ◌≤◌, length, replicate}
 use Rattle.std.proofs.Common.{ap, ◌∙◌, arith}
-use Rattle.std.proofs.Math.Option.{Option, none, some}
+use Rattle.std.specs.Prelude.{Option, None, Some, Ok, Err}
 use Rattle.spec.specs.Hir as hir
 use Rattle.spec.specs.Lir as lir
 use Rattle.spec.specs.Lir.{ByteOperand, Purpose, Value, value, bit_value, stored_bit, immediate, compare_bytes}
@@ -13,21 +13,19 @@ use Rattle.spec.specs.Operators.{UnaryForm, negating, inverting, counting, Binar
 use Rattle.spec.specs.Allocation.{bool_type, bits_of, width_of, odd_bits, integer_width, allocate_carry, allocate_bit_temporary}
 use Rattle.spec.specs.Arithmetic.{adds, subtracts, negates, zip2, zip3, binary_instructions, unary_instructions}
 use Rattle.spec.specs.Conversions.{lower_compare, not_zero}
-use Rattle.text.specs.Put.{last}
 use Rattle.lir.specs.Abstract.{bytes_of, destinations_of, byte_binary_op_of, shift_op_of, unary_op_of, binary_op_of}
 use Rattle.lir.specs.declared.StorageId.{StorageId}
 use Rattle.lir.specs.declared.Bytes.{Bytes}
 use Rattle.lir.specs.declared.Destinations.{Destinations}
 use Rattle.lir.specs.declared.ByteBinaryOp.{ByteBinaryOp}
-use Rattle.emission.specs.declared.Counters.{Counters}
-use Rattle.emission.specs.declared.Emitted.{Emitted}
-use Rattle.emission.specs.declared.Width.{Width}
+use Rattle.answers.specs.declared.Refusal.{Refusal}
+use Rattle.emission.specs.declared.emitter.Emitter.{Emitter}
 use Rattle.emission.specs.declared.UnaryForm.{UnaryForm as Unary}
 use Rattle.emission.specs.declared.BinaryForm.{BinaryForm as Binary}
-use Rattle.emission.specs.Appends.{Texts, texts}
+use Rattle.emission.specs.Appends.{Keeps}
 use Rattle.emission.specs.Emits.{Emits, Allocates}
-use Rattle.emission.specs.Does.{Does, Refuses, MeetsCode, out, does_emits, does_allocating}
-use Rattle.lir.specs.PutFields.{length_tab}
+use Rattle.emission.specs.Does.{Does, Refuses, Meets, out, does_emits, does_allocating}
+use Rattle.lir.specs.Tab.{length_tab}
 use Rattle.emission.specs.Kinds.{zero_bytes}
 use Rattle.emission.specs.Operands.{length_bytes, zeros}
 use Rattle.emission.specs.Loops.{adds_table, subtracts_table, negates_table, binary_table, not_table}
@@ -44,19 +42,15 @@ binary_form_of (Binary.Bytewise op) = bytewise (byte_binary_op_of op)
 binary_form_of (Binary.Shifting op) = shifting (shift_op_of op)
 binary_form_of (Binary.Whole op) = whole (binary_op_of op)
 
-abbrev pub width_option : Width → Option ℕ
-width_option Width.Absent = none
-width_option (Width.Found w) = some w
-
 -- w is what `integer_width` finds of the type ty
-pub record HasWidth (T : Tables) (ty : ℕ) (w : Width) : Type 0 where
-  pub is : width_of (type_at T ty).word (type_at T ty).args ≡ width_option w
+pub record HasWidth (T : Tables) (ty : ℕ) (w : Option ℕ) : Type 0 where
+  pub is : width_of (type_at T ty).word (type_at T ty).args ≡ w
 
 -- ---------------------------------------------------------------- the bits past the whole bytes
 
 abbrev pub odd_option : Option ℕ → ℕ
-odd_option none = 0
-odd_option (some w) = w % 8
+odd_option None = 0
+odd_option (Some w) = w % 8
 
 odd_words : (k : TypeWord) (xs : List ℕ) → bits_of k xs % 8 ≡ odd_option (width_of k xs)
 odd_words t_unit xs = refl
@@ -70,7 +64,7 @@ odd_words t_tuple xs = refl
 odd_words t_opaque xs = refl
 
 -- a pointer's sixteen bits are no odd ones
-pub odd_width : {T : Tables} {ty : ℕ} {w : Width} → HasWidth T ty w → odd_bits T ty ≡ odd_option (width_option w)
+pub odd_width : {T : Tables} {ty : ℕ} {w : Option ℕ} → HasWidth T ty w → odd_bits T ty ≡ odd_option w
 unfolding odd_bits
 odd_width {T} {ty} h = odd_words (type_at T ty).word (type_at T ty).args ∙ ap odd_option h.is
 
@@ -95,32 +89,32 @@ module _ (d : Destinations) (b : Bytes) where
 
 -- ---------------------------------------------------------------- with a carry
 
-module _ (T : Tables) (ty : ℕ) (d : Destinations) {s s1 t t1 : List ℕ} {c c1 c2 : Counters} where
-  pub does_adding : (l r : Bytes) (k : StorageId) → Allocates s c (allocate_carry lir.add_carry) k.0 s1 c1
-      → Emits t c1 (adds k.0 (destinations_of d) (bytes_of l) (bytes_of r)) t1 c2
-      → Does (d.count + 1) (texts t s) c (binary_instructions T adding ty (destinations_of d) (bytes_of l) (bytes_of r)) tt (texts t1 s1) c2
+module _ (T : Tables) (ty : ℕ) (d : Destinations) {e e1 e2 : Emitter} where
+  pub does_adding : (l r : Bytes) (k : StorageId) → Allocates e (allocate_carry lir.add_carry) k.0 e1
+      → Emits e1 (adds k.0 (destinations_of d) (bytes_of l) (bytes_of r)) e2
+      → Does (d.count + 1) e (binary_instructions T adding ty (destinations_of d) (bytes_of l) (bytes_of r)) tt e2
   unfolding binary_instructions
   does_adding l r k a e =
       does_allocating (λ x. emits (adds x (destinations_of d) (bytes_of l) (bytes_of r))) (omega arith) (omega (arith, adds_few d l r k)) a e (λ h n. refl)
 
-  pub does_subtracting : (l r : Bytes) (k : StorageId) → Allocates s c (allocate_carry lir.subtract_borrow) k.0 s1 c1
-      → Emits t c1 (subtracts k.0 (destinations_of d) (bytes_of l) (bytes_of r)) t1 c2
-      → Does (d.count + 1) (texts t s) c (binary_instructions T subtracting ty (destinations_of d) (bytes_of l) (bytes_of r)) tt (texts t1 s1) c2
+  pub does_subtracting : (l r : Bytes) (k : StorageId) → Allocates e (allocate_carry lir.subtract_borrow) k.0 e1
+      → Emits e1 (subtracts k.0 (destinations_of d) (bytes_of l) (bytes_of r)) e2
+      → Does (d.count + 1) e (binary_instructions T subtracting ty (destinations_of d) (bytes_of l) (bytes_of r)) tt e2
   unfolding binary_instructions
   does_subtracting l r k a e =
       does_allocating (λ x. emits (subtracts x (destinations_of d) (bytes_of l) (bytes_of r))) (omega arith) (omega (arith, subtracts_few d l r k)) a e (λ h n. refl)
 
-  pub does_negating : (b : Bytes) (k : StorageId) → Allocates s c (allocate_carry lir.negate_borrow) k.0 s1 c1
-      → Emits t c1 (negates k.0 (destinations_of d) (bytes_of b)) t1 c2
-      → Does (d.count + 1) (texts t s) c (unary_instructions T negating ty (destinations_of d) (bytes_of b)) tt (texts t1 s1) c2
+  pub does_negating : (b : Bytes) (k : StorageId) → Allocates e (allocate_carry lir.negate_borrow) k.0 e1
+      → Emits e1 (negates k.0 (destinations_of d) (bytes_of b)) e2
+      → Does (d.count + 1) e (unary_instructions T negating ty (destinations_of d) (bytes_of b)) tt e2
   unfolding unary_instructions
   does_negating b k a e =
       does_allocating (λ x. emits (negates x (destinations_of d) (bytes_of b))) (omega arith) (omega (arith, negates_few d b k)) a e (λ h n. refl)
 
 -- ---------------------------------------------------------------- with a width
 
-pub width_done : {A : Type 0} {T : Tables} {ty w n : ℕ} {t t1 : Texts} {c c1 : Counters} {a : A} (f : ℕ → Lower A)
-    → HasWidth T ty (Width.Found w) → Does n t c (f w) a t1 c1 → Does n t c (integer_width T ty >>= f) a t1 c1
+pub width_done : {A : Type 0} {T : Tables} {ty w n : ℕ} {e e1 : Emitter} {a : A} (f : ℕ → Lower A)
+    → HasWidth T ty (Some w) → Does n e (f w) a e1 → Does n e (integer_width T ty >>= f) a e1
 unfolding integer_width or_refuse ◌>>=◌
 width_done f w x =
     record {
@@ -133,17 +127,16 @@ width_done f w x =
       few_kinds = x.few_kinds;
     }
 
-pub width_refused : {A : Type 0} {T : Tables} {ty : ℕ} {c : Counters} (f : ℕ → Lower A) → HasWidth T ty Width.Absent → Refuses c (integer_width T ty >>= f) 23
+pub width_refused : {A : Type 0} {T : Tables} {ty : ℕ} {e : Emitter} (f : ℕ → Lower A) → HasWidth T ty None → Refuses e (integer_width T ty >>= f) 23
 unfolding integer_width or_refuse ◌>>=◌
 width_refused f w = record { is = λ h. rw w.is }
 
-module _ {T : Tables} {ty n : ℕ} {l l1 : List ℕ} {c : Counters} (g : ℕ → List lir.InstructionKind) where
-  pub codes_width : {w : ℕ} {c1 : Counters} → HasWidth T ty (Width.Found w) → c.stored ≤ last → length (g w) ≤ n → Emits l c (g w) l1 c1
-      → MeetsCode n l c (integer_width T ty >>= λ x. emits (g x)) l1 (Emitted.Done c1)
-  codes_width w q f e = record { shown = λ s p. record { shown = width_done (λ x. emits (g x)) w (does_emits s p q f e) } }
+module _ {T : Tables} {ty n : ℕ} {e e1 : Emitter} (g : ℕ → List lir.InstructionKind) where
+  pub codes_width : {w : ℕ} → HasWidth T ty (Some w) → length (g w) ≤ n → Emits e (g w) e1 → Meets n e (integer_width T ty >>= λ x. emits (g x)) e1 (Ok tt)
+  codes_width w f x = record { shown = width_done (λ y. emits (g y)) w (does_emits f x) }
 
-  pub codes_refused : HasWidth T ty Width.Absent → MeetsCode n l c (integer_width T ty >>= λ x. emits (g x)) l1 (Emitted.Refused 23)
-  codes_refused w = record { shown = λ s p. record { shown = width_refused (λ x. emits (g x)) w } }
+  pub codes_refused : HasWidth T ty None → Keeps e e1 → Meets n e (integer_width T ty >>= λ x. emits (g x)) e1 (Err Refusal.UnsupportedType)
+  codes_refused w k = record { shown = (width_refused (λ y. emits (g y)) w, k) }
 
 -- ---------------------------------------------------------------- comparing
 
@@ -167,18 +160,18 @@ prepend_nothing (refused n l) = refl
 prepend_nothing (done a c p) = refl
 
 pub compare_behind : (T : Tables) (op : hir.CompareOp) (l r : Value) {w : ℕ} {ls rs : List ByteOperand} (h : hir.At) (c : monad.Counters)
-    → HasWidth T (value_type l) (Width.Found w) → repr_bytes (value_repr l) ≡ some ls → repr_bytes (value_repr r) ≡ some rs
+    → HasWidth T (value_type l) (Some w) → repr_bytes (value_repr l) ≡ Some ls → repr_bytes (value_repr r) ≡ Some rs
     → lower_compare T op l r h c ≡ comparing op w ls rs h c
 unfolding lower_compare comparing integer_width value_bytes or_refuse ◌>>=◌
 compare_behind T op l r h c w p q = rw (w.is, p, q) (simp prepend_nothing)
 
 pub not_zero_behind : (T : Tables) (purpose : Purpose) (v : Value) {w : ℕ} {bs : List ByteOperand} (h : hir.At) (c : monad.Counters)
-    → HasWidth T (value_type v) (Width.Found w) → repr_bytes (value_repr v) ≡ some bs
+    → HasWidth T (value_type v) (Some w) → repr_bytes (value_repr v) ≡ Some bs
     → not_zero T purpose v h c ≡ comparing_zero purpose w bs h c
 unfolding not_zero comparing_zero integer_width value_bytes or_refuse ◌>>=◌
 not_zero_behind T purpose v h c w p = rw (w.is, p) (simp prepend_nothing)
 
-compared : (op : hir.CompareOp) (o : lir.CompareOp) (w x : ℕ) (ls rs : List ByteOperand) → compare_op op ≡ some o → (h : hir.At) (n : monad.Counters)
+compared : (op : hir.CompareOp) (o : lir.CompareOp) (w x : ℕ) (ls rs : List ByteOperand) → compare_op op ≡ Some o → (h : hir.At) (n : monad.Counters)
     → (or_refuse 24 (compare_op op) >>= λ p. (emit (compare_bytes p w x ls rs) >> pure (value bool_type (bit_value (stored_bit x))))) h n
     ≡ done (value bool_type (bit_value (stored_bit x))) n (out [] (compare_bytes o w x ls rs ∷ []) h)
 unfolding or_refuse ◌>>=◌ ◌>>◌
@@ -190,19 +183,19 @@ compared_zero : (w x : ℕ) (b : Bytes) (h : hir.At) (n : monad.Counters)
 unfolding ◌>>◌
 compared_zero w x b h n = rw (length_bytes b, zeros b.total)
 
-module _ {s s1 t t1 : List ℕ} {c c1 c2 : Counters} where
-  pub does_comparing : (k : ℕ) (op : hir.CompareOp) (o : lir.CompareOp) (w : ℕ) (ls rs : List ByteOperand) → compare_op op ≡ some o
-      → Allocates s c (allocate_bit_temporary lir.compare) k s1 c1 → Emits t c1 (compare_bytes o w k ls rs ∷ []) t1 c2
-      → Does 1 (texts t s) c (comparing op w ls rs) (value bool_type (bit_value (stored_bit k))) (texts t1 s1) c2
+module _ {e e1 e2 : Emitter} where
+  pub does_comparing : (k : ℕ) (op : hir.CompareOp) (o : lir.CompareOp) (w : ℕ) (ls rs : List ByteOperand) → compare_op op ≡ Some o
+      → Allocates e (allocate_bit_temporary lir.compare) k e1 → Emits e1 (compare_bytes o w k ls rs ∷ []) e2
+      → Does 1 e (comparing op w ls rs) (value bool_type (bit_value (stored_bit k))) e2
   unfolding comparing
   does_comparing k op o w ls rs e a b =
       does_allocating
       (λ x. or_refuse 24 (compare_op op) >>= λ p. (emit (compare_bytes p w x ls rs) >> pure (value bool_type (bit_value (stored_bit x)))))
       (omega arith) (omega arith) a b (λ h n. compared op o w k ls rs e h n)
 
-  pub does_comparing_zero : (k : ℕ) (p : Purpose) (w : ℕ) (b : Bytes) → Allocates s c (allocate_bit_temporary p) k s1 c1
-      → Emits t c1 (compare_bytes lir.not_equal w k (bytes_of b) (bytes_of (zero_bytes b.total)) ∷ []) t1 c2
-      → Does 1 (texts t s) c (comparing_zero p w (bytes_of b)) k (texts t1 s1) c2
+  pub does_comparing_zero : (k : ℕ) (p : Purpose) (w : ℕ) (b : Bytes) → Allocates e (allocate_bit_temporary p) k e1
+      → Emits e1 (compare_bytes lir.not_equal w k (bytes_of b) (bytes_of (zero_bytes b.total)) ∷ []) e2
+      → Does 1 e (comparing_zero p w (bytes_of b)) k e2
   unfolding comparing_zero
   does_comparing_zero k p w b a e =
       does_allocating

@@ -1,9 +1,8 @@
-pub mod Advance
 pub mod Appends
 pub mod Tabs
-pub mod Operands
 pub mod Emits
 pub mod Kinds
+pub mod Operands
 pub mod Does
 pub mod Loops
 pub mod Temporaries

@@ -1,8 +1,8 @@
--- The definitions' lists of instructions, as tables of `byte_kind`.
+-- The definitions' lists of instructions, as tables.
 use Rattle.std.specs.Prelude.{◌≡◌, refl, Bool, true, false, ◌&&◌, List, ◌∷◌, [], ℕ, suc, ◌+◌, ◌-◌, ◌*◌, ◌%◌, ◌≤◌, ◌<◌, min, eqb, leb, length}
 use Rattle.std.proofs.Common.{◌∙◌, arith}
 use Rattle.std.proofs.lemmas.Bool.{false≢true}
-use Rattle.std.proofs.Math.Option.{Option, none, some}
+use Rattle.std.specs.Prelude.{Option, None, Some}
 use borrow.Author.Tests.{le-ltb, eq-eqb, ne_eqb, le-leb, lt-leb, eqb-true, eqb-false, leb-true, leb-false}
 use Rattle.spec.specs.Lir as lir
 use Rattle.spec.specs.Allocation.{bytes_from}
@@ -19,21 +19,20 @@ use Rattle.lir.specs.declared.Bytes.{Bytes}
 use Rattle.lir.specs.declared.Destinations.{Destinations}
 use Rattle.lir.specs.declared.ByteBinaryOp.{ByteBinaryOp}
 use Rattle.lir.specs.declared.RotateDirection.{RotateDirection}
-use Rattle.emission.specs.declared.Bytewise.{Bytewise}
-use Rattle.lir.specs.PutFields.{spot}
+use Rattle.lir.specs.Tab.{spot}
 use Rattle.emission.specs.Tabs.{tab_same, zip2_tab, zip3_tab, bit_tab, rotates_tab}
-use Rattle.emission.specs.Kinds.{byte_kind, zero_bytes}
+use Rattle.emission.specs.Kinds.{add_kind, subtract_kind, binary_kind, not_kind, copy_kind, bit_kind, turn_kind, zero_bytes}
 
 module _ (d : Destinations) (l r : Bytes) where
   pub adds_table : (k : StorageId)
-      → adds k.0 (destinations_of d) (bytes_of l) (bytes_of r) ≡ tab (byte_kind d (Bytewise.Add l r k)) 0 (min d.count (min l.total r.total))
+      → adds k.0 (destinations_of d) (bytes_of l) (bytes_of r) ≡ tab (add_kind d l r k) 0 (min d.count (min l.total r.total))
   unfolding adds bytes_of
   adds_table k =
       zip3_tab (λ i x a b. lir.add x a b (carry_in k.0 i) (carry_out k.0 (length (destinations_of d)) i)) (byte_at l) (byte_at r) d.storage.0 d.count l.total r.total
       ∙ tab_same _ _ 0 _ (λ i h. rw length_bytes_from)
 
   pub subtracts_table : (k : StorageId)
-      → subtracts k.0 (destinations_of d) (bytes_of l) (bytes_of r) ≡ tab (byte_kind d (Bytewise.Subtract l r k)) 0 (min d.count (min l.total r.total))
+      → subtracts k.0 (destinations_of d) (bytes_of l) (bytes_of r) ≡ tab (subtract_kind d l r k) 0 (min d.count (min l.total r.total))
   unfolding subtracts bytes_of
   subtracts_table k =
       zip3_tab (λ i x a b. lir.subtract x a b (carry_in k.0 i) (carry_out k.0 (length (destinations_of d)) i)) (byte_at l) (byte_at r) d.storage.0 d.count l.total r.total
@@ -41,32 +40,32 @@ module _ (d : Destinations) (l r : Bytes) where
 
   pub binary_table : (op : ByteBinaryOp)
       → zip3 (λ i x a b. lir.byte_binary (byte_binary_op_of op) x a b) 0 (destinations_of d) (bytes_of l) (bytes_of r)
-      ≡ tab (byte_kind d (Bytewise.Binary op l r)) 0 (min d.count (min l.total r.total))
+      ≡ tab (binary_kind d l r op) 0 (min d.count (min l.total r.total))
   unfolding bytes_of
   binary_table op = zip3_tab (λ i x a b. lir.byte_binary (byte_binary_op_of op) x a b) (byte_at l) (byte_at r) d.storage.0 d.count l.total r.total
 
 module _ (d : Destinations) (b : Bytes) where
   -- a difference from zeros
   pub negates_table : (k : StorageId)
-      → negates k.0 (destinations_of d) (bytes_of b) ≡ tab (byte_kind d (Bytewise.Subtract (zero_bytes b.total) b k)) 0 (min d.count b.total)
+      → negates k.0 (destinations_of d) (bytes_of b) ≡ tab (subtract_kind d (zero_bytes b.total) b k) 0 (min d.count b.total)
   unfolding negates bytes_of
   negates_table k =
       zip2_tab (λ i x a. lir.subtract x (lir.immediate 0) a (carry_in k.0 i) (carry_out k.0 (length (destinations_of d)) i)) (byte_at b) d.storage.0 d.count b.total
       ∙ tab_same _ _ 0 _ (λ i h. rw (length_bytes_from, le-ltb i 0 (omega arith)))
 
-  pub not_table : zip2 (λ i x a. lir.not_byte x a) 0 (destinations_of d) (bytes_of b) ≡ tab (byte_kind d (Bytewise.Not b)) 0 (min d.count b.total)
+  pub not_table : zip2 (λ i x a. lir.not_byte x a) 0 (destinations_of d) (bytes_of b) ≡ tab (not_kind d b) 0 (min d.count b.total)
   unfolding bytes_of
   not_table = zip2_tab (λ i x a. lir.not_byte x a) (byte_at b) d.storage.0 d.count b.total
 
-  pub copy_table : zip2 (λ i x a. lir.copy_byte x a) 0 (destinations_of d) (bytes_of b) ≡ tab (byte_kind d (Bytewise.Copy b)) 0 (min d.count b.total)
+  pub copy_table : zip2 (λ i x a. lir.copy_byte x a) 0 (destinations_of d) (bytes_of b) ≡ tab (copy_kind d b) 0 (min d.count b.total)
   unfolding bytes_of
   copy_table = zip2_tab (λ i x a. lir.copy_byte x a) (byte_at b) d.storage.0 d.count b.total
 
-pub bit_table : (d : Destinations) (b : BitOperand) → bit_to_bytes (destinations_of d) (bit_operand_of b) ≡ tab (byte_kind d (Bytewise.Bit b)) 0 d.count
+pub bit_table : (d : Destinations) (b : BitOperand) → bit_to_bytes (destinations_of d) (bit_operand_of b) ≡ tab (bit_kind d b) 0 d.count
 bit_table d b = bit_tab d.storage.0 d.count (bit_operand_of b)
 
 pub turn_table : (d : Destinations) (dir : RotateDirection) (x : ByteOperand) (n : ℕ)
-    → rotates (rotate_direction_of dir) (spot d.storage.0 0) (byte_operand_of x) n ≡ tab (byte_kind d (Bytewise.Turn dir x)) 0 n
+    → rotates (rotate_direction_of dir) (spot d.storage.0 0) (byte_operand_of x) n ≡ tab (turn_kind d dir x) 0 n
 turn_table d dir x n = rotates_tab (rotate_direction_of dir) (spot d.storage.0 0) (byte_operand_of x) n
 
 -- ---------------------------------------------------------------- turns by a constant, and shifts
@@ -96,15 +95,15 @@ middle true false c d h = absurd (false≢true h)
 middle false b c d h = absurd (false≢true h)
 
 module _ (op : lir.ShiftOp) (w : ℕ) (ds : List lir.ByteStorage) (l r : List lir.ByteOperand) where
-  pub shift_plain : rotate_direction op ≡ none → shifts op w ds l r ≡ lir.shift_bytes op w ds l r ∷ []
+  pub shift_plain : rotate_direction op ≡ None → shifts op w ds l r ≡ lir.shift_bytes op w ds l r ∷ []
   unfolding shifts
   shift_plain e = rw e
 
-  pub shift_whole : (dir : lir.RotateDirection) → rotate_direction op ≡ some dir → byte_rotate w ds l r ≡ false → shifts op w ds l r ≡ lir.shift_bytes op w ds l r ∷ []
+  pub shift_whole : (dir : lir.RotateDirection) → rotate_direction op ≡ Some dir → byte_rotate w ds l r ≡ false → shifts op w ds l r ≡ lir.shift_bytes op w ds l r ∷ []
   unfolding shifts
   shift_whole dir e h = rw (e, h)
 
-  pub shift_turned : (dir : lir.RotateDirection) → rotate_direction op ≡ some dir → byte_rotate w ds l r ≡ true
+  pub shift_turned : (dir : lir.RotateDirection) → rotate_direction op ≡ Some dir → byte_rotate w ds l r ≡ true
       → shifts op w ds l r ≡ byte_rotates dir (first_storage ds) (first_operand l) (lowest_byte r % 8)
   unfolding shifts
   shift_turned dir e h = rw (e, h)
@@ -134,9 +133,9 @@ shifts_few op w d l r = go (rotate_direction op) refl (byte_rotate w (destinatio
   where
     go : (o : Option lir.RotateDirection) → rotate_direction op ≡ o → (t : Bool) → byte_rotate w (destinations_of d) l r ≡ t
         → length (shifts op w (destinations_of d) l r) ≤ 2 * d.count + 2
-    go none e t f = rw (shift_plain op w (destinations_of d) l r e) (omega arith)
-    go (some dir) e false f = rw (shift_whole op w (destinations_of d) l r dir e f) (omega arith)
-    go (some dir) e true f =
+    go None e t f = rw (shift_plain op w (destinations_of d) l r e) (omega arith)
+    go (Some dir) e false f = rw (shift_whole op w (destinations_of d) l r dir e f) (omega arith)
+    go (Some dir) e true f =
         let one = turned_one op w (destinations_of d) l r f in
         let count = length_bytes_from d.storage.0 0 d.count in
         let four = turned_few dir (first_storage (destinations_of d)) (first_operand l) (lowest_byte r % 8) (omega arith) in

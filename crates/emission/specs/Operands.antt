@@ -7,7 +7,7 @@ use Rattle.spec.specs.Arithmetic.{first_operand}
 use Rattle.lir.specs.Abstract.{tab, pick, byte_at, source_byte, bytes_of}
 use Rattle.lir.specs.declared.Bytes.{Bytes}
 use Rattle.lir.specs.declared.Source.{Source}
-use Rattle.lir.specs.PutFields.{length_tab}
+use Rattle.lir.specs.Tab.{length_tab}
 use Rattle.emission.specs.Kinds.{zero_bytes}
 
 abbrev pub is_immediate : ByteOperand → Bool

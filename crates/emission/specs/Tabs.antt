@@ -7,7 +7,7 @@ use Rattle.spec.specs.Allocation.{bytes_from}
 use Rattle.spec.specs.Arithmetic.{zip2, zip3, masks, rotates}
 use Rattle.spec.specs.Conversions.{bit_to_bytes}
 use Rattle.lir.specs.Abstract.{tab, pick}
-use Rattle.lir.specs.PutFields.{spot}
+use Rattle.lir.specs.Tab.{spot}
 
 -- two tables that agree from j on
 pub tab_same : {A : Type 0} (f g : ℕ → A) (j n : ℕ) → ((i : ℕ) → j ≤ i → f i ≡ g i) → tab f j n ≡ tab g j n

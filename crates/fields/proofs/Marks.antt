@@ -28,6 +28,16 @@ module _ (s : List ℕ) (b i n : ℕ) (p : n ≡ i + index b (drop i s)) where
   unfolding index
   index_more h e = p ∙ rw (drop-cons s i 0 h, index, ne_eqb (get_or s i 0) b e, add-one) (omega arith)
 
+-- the mark is not before i, and stands there, or the text ends there
+module _ (s : List ℕ) (from b i : ℕ) (p : from + index b (drop from s) ≡ i + index b (drop i s)) (l : from ≤ i) where
+  pub found_end : i ≡ length s → Found s from b i
+  found_end e = record { low = l; high = omega arith; here = index_end s b i (from + index b (drop from s)) p (omega arith) }
+
+  pub found_here : i < length s → get_or s i 0 ≡ b → Found s from b i
+  found_here h e = record { low = l; high = omega arith; here = index_here s b i (from + index b (drop from s)) p h e }
+
+pub ruleset find_laws = (found_end, found_here, index_more)
+
 -- ---------------------------------------------------------------- `split` at the first mark
 
 behind : ℕ → List ℕ → ℕ → List (List ℕ)

@@ -2,7 +2,7 @@
 use mathlib.Core.Path.{◌≡◌, refl, sym, ◌∙◌}
 use mathlib.Core.Bool.{Bool, true, false, ◌&&◌}
 use mathlib.Core.List.{List, ◌∷◌, ◌++◌, []}
-use mathlib.Core.Option.{some}
+use Rattle.std.specs.Prelude.{None, Some}
 use Prim.Native.Nat.{ℕ, suc, ◌+◌, ◌-◌, ◌*◌, ◌≤◌, ◌<◌, ◌^◌}
 use native.Mathlib.Omega.{arith}
 use native.Mathlib.Nat.{add-zero}
@@ -10,11 +10,7 @@ use lib.ListN.{length, get_or, take, drop, length-drop}
 use lib.Seq.{take-suc, length-take-le, get_or-take, get_or-drop}
 use borrow.Author.Tests.{lt-ltb, le-leb}
 use Rattle.spec.specs.Text.{comma, number, all_digits, is_digit, horner}
-use Rattle.fields.specs.Fields.{index, Found, digits_from, Digits, QuickAt, NumberAt, LoneAt}
-use Rattle.fields.specs.declared.Cursor.{Cursor}
-use Rattle.fields.specs.declared.Parsed.TheVariants.{Number}
-use Rattle.fields.specs.declared.Decimal.{Decimal}
-use Rattle.fields.specs.declared.Decimal.TheVariants.{Value, Malformed}
+use Rattle.fields.specs.Fields.{index, Found, digits_from, Digits, QuickAt, LoneAt}
 use Rattle.fields.proofs.Decimals.{number_one, number_many}
 use Rattle.fields.proofs.Marks.{index_end, index_here, index_more}
 use Rattle.fields.proofs.Lines.{number_value}
@@ -81,20 +77,20 @@ module _ (s : List ℕ) (p i v : ℕ) (r : Digits s p i v) where
   part_long : length (take (i - p) (drop p s)) ≡ i - p
   part_long = length-take-le (i - p) (drop p s) (rw (length-drop p s) (omega (arith, r.low, r.high)))
 
-  some_digits : some v ≡ digits_from 0 (take (i - p) (drop p s))
+  some_digits : Some v ≡ digits_from 0 (take (i - p) (drop p s))
   unfolding digits_from
   some_digits = rw (r.digits, r.value, lt-ltb v (2 ^ 64) r.bound)
 
   module _ (f : Found s p comma i) where
-    there : some v ≡ number (take (i - p) (drop p s)) → QuickAt s p (Value v (record { at = i + 1 }))
-    there q = record { right = λ w c g. rw (← g) (number_value s p i (omega (arith, r.low, r.high)) f (Number v) q v refl) }
+    there : Some v ≡ number (take (i - p) (drop p s)) → QuickAt s p (Some (v, i + 1))
+    there q = record { right = number_value s p i (omega (arith, r.low, r.high)) f v q }
 
-    pub quick_one : i - p ≡ 1 → QuickAt s p (Value v (record { at = i + 1 }))
-    quick_one e = there (number_one (some v) (take (i - p) (drop p s)) some_digits (part_long ∙ e))
+    pub quick_one : i - p ≡ 1 → QuickAt s p (Some (v, i + 1))
+    quick_one e = there (number_one (Some v) (take (i - p) (drop p s)) some_digits (part_long ∙ e))
 
-    pub quick_many : (i ≡ p → ⊥) → (i - p ≡ 1 → ⊥) → (get_or s p 0 ≡ 48 → ⊥) → QuickAt s p (Value v (record { at = i + 1 }))
+    pub quick_many : (i ≡ p → ⊥) → (i - p ≡ 1 → ⊥) → (get_or s p 0 ≡ 48 → ⊥) → QuickAt s p (Some (v, i + 1))
     quick_many z o n =
-        there (number_many (some v) (take (i - p) (drop p s)) some_digits
+        there (number_many (Some v) (take (i - p) (drop p s)) some_digits
         (λ e. z (omega (arith, e, part_long, r.low))) (λ e. o (sym part_long ∙ e)) (λ e. n (sym first ∙ e)))
       where
         first : get_or (take (i - p) (drop p s)) 0 0 ≡ get_or s p 0
@@ -102,38 +98,33 @@ module _ (s : List ℕ) (p i v : ℕ) (r : Digits s p i v) where
             let k : 0 < i - p = omega (arith, z, r.low) in
             get_or-take (i - p) (drop p s) 0 0 k ∙ get_or-drop p s 0 0 ∙ rw (add-zero p)
 
-pub quick_none : (s : List ℕ) (p : ℕ) → QuickAt s p Malformed
-quick_none s p = record { right = λ v c g. absurd (let z : ◌≡◌ {A = ℕ} 0 1 = cc in omega arith) }
+pub quick_none : (s : List ℕ) (p : ℕ) → QuickAt s p None
+quick_none s p = record { right = tt }
 
-pub quick_value : (s : List ℕ) (p : ℕ) (r : Decimal) (v : ℕ) (c : Cursor) → QuickAt s p r → r ≡ Value v c → NumberAt s p (Value v c)
-quick_value s p r v c q g = q.right v c g
-
-pub ruleset quick_laws = (digits_none, digits_next, found_end, found_mark, quick_one, quick_many, quick_none, quick_value)
+pub ruleset quick_laws = (digits_none, digits_next, found_end, found_mark, quick_one, quick_many, quick_none)
 
 -- ---------------------------------------------------------------- a number of one digit
 
-pub lone_none : (s : List ℕ) (p : ℕ) → LoneAt s p 10
-lone_none s p = record { right = λ h. absurd (omega arith) }
+pub lone_none : (s : List ℕ) (p : ℕ) → LoneAt s p None
+lone_none s p = record { right = tt }
 
-module _ (s : List ℕ) (p : ℕ) (h : p < length s) (l : 48 ≤ get_or s p 0) (g : get_or s p 0 ≤ 57) where
-  one : Digits s p (p + 1) (get_or s p 0 - 48)
+module _ (s : List ℕ) (p d : ℕ) (is : d ≡ get_or s p 0) (h : p < length s) (l : 48 ≤ d) (g : d ≤ 57) where
+  one : Digits s p (p + 1) (d - 48)
   one =
-      let e : 0 * 10 + (get_or s p 0 - 48) ≡ get_or s p 0 - 48 = omega arith in
-      rw e at (digits_next s p p 0 (digits_none s p (omega arith)) h l g (omega arith))
+      let e : 0 * 10 + (get_or s p 0 - 48) ≡ d - 48 = omega arith in
+      rw e at (digits_next s p p 0 (digits_none s p (omega arith)) h (omega arith) (omega arith) (omega arith))
 
-  alone : Found s p comma (p + 1) → LoneAt s p (get_or s p 0 - 48)
+  alone : Found s p comma (p + 1) → LoneAt s p (Some (d - 48))
   alone f =
       let e : p + 1 + 1 ≡ p + 2 = omega arith in
-      let q : NumberAt s p (Value (get_or s p 0 - 48) (record { at = p + 1 + 1 })) =
-      (quick_one s p (p + 1) (get_or s p 0 - 48) one f (omega arith)).right (get_or s p 0 - 48) (record { at = p + 1 + 1 }) refl in
-      record { right = λ k. rw e at q }
+      record { right = rw e at (quick_one s p (p + 1) (d - 48) one f (omega arith)).right }
 
   -- at the line's end
-  pub lone_end : length s - p ≡ 1 → LoneAt s p (get_or s p 0 - 48)
-  lone_end e = alone (found_end s p (p + 1) (get_or s p 0 - 48) one (omega arith))
+  pub lone_end : length s - p ≡ 1 → LoneAt s p (Some (d - 48))
+  lone_end e = alone (found_end s p (p + 1) (d - 48) one (omega arith))
 
   -- before a comma
-  pub lone_mark : (length s - p ≡ 1 → ⊥) → get_or s (p + 1) 0 ≡ comma → LoneAt s p (get_or s p 0 - 48)
-  lone_mark n e = alone (found_mark s p (p + 1) (get_or s p 0 - 48) one (omega (arith, n)) e)
+  pub lone_mark : (length s - p ≡ 1 → ⊥) → get_or s (p + 1) 0 ≡ comma → LoneAt s p (Some (d - 48))
+  lone_mark n e = alone (found_mark s p (p + 1) (d - 48) one (omega (arith, n)) e)
 
 pub ruleset lone_laws = (lone_none, lone_end, lone_mark)

@@ -1,5 +1,5 @@
 -- Lists made of a function's values, and lists compared byte by byte.
-use mathlib.Core.Path.{◌≡◌, refl, sym, ap, ◌∙◌}
+use mathlib.Core.Path.{◌≡◌, refl, ap, ◌∙◌}
 use mathlib.Core.Bool.{Bool, true, false, ◌&&◌}
 use mathlib.Core.List.{List, ◌∷◌, ◌++◌, []}
 use mathlib.Core.Logic.{◌≢◌}
@@ -7,9 +7,9 @@ use Prim.Native.Nat.{ℕ, suc, ◌+◌, ◌-◌, ◌≤◌, ◌<◌}
 use native.Mathlib.Omega.{arith}
 use native.Mathlib.Numerals.{add-one}
 use lib.Dec.{eqb}
-use lib.ListN.{length, get_or, drop, set, drop_of_length-le, length-set}
-use lib.Seq.{drop-cons, get_or-set_same, get_or-set_other}
-use borrow.Author.Tests.{eq-eqb, ne_eqb}
+use lib.ListN.{length, get_or, set, length-set}
+use lib.Seq.{get_or-set_same, get_or-set_other}
+use Rattle.std.specs.Str.{bytes_eq}
 use Rattle.spec.specs.Text.{same}
 use Rattle.tables.specs.Tables.{tab, run}
 use Rattle.tables.proofs.Laws as tables
@@ -28,20 +28,13 @@ same_lengths (x ∷ xs) (y ∷ ys) h = by (eqb x y) (same_lengths xs ys (λ e. h
     by true e = e
     by false e = refl
 
-module _ (o : Bool) (s t : List ℕ) (i : ℕ) (p : o ≡ same (drop i s) (drop i t)) (l : length s ≡ length t) where
-  pub same_end : length s ≤ i → true ≡ o
-  unfolding same
-  same_end h = let g : length t ≤ i = omega arith in sym (p ∙ rw (drop_of_length-le s h, drop_of_length-le t g))
-
-  pub same_other : i < length s → (get_or s i 0 ≡ get_or t i 0 → ⊥) → false ≡ o
-  unfolding same
-  same_other h e = let g : i < length t = omega arith in sym (p ∙ rw (drop-cons s i 0 h, drop-cons t i 0 g, ne_eqb (get_or s i 0) (get_or t i 0) e))
-
-  pub same_more : i < length s → get_or s i 0 ≡ get_or t i 0 → o ≡ same (drop (i + 1) s) (drop (i + 1) t)
-  unfolding same
-  same_more h e = let g : i < length t = omega arith in p ∙ rw (drop-cons s i 0 h, drop-cons t i 0 g, eq-eqb (get_or s i 0) (get_or t i 0) e, add-one)
-
-pub ruleset same_laws = (same_lengths, same_end, same_other, same_more)
+-- what `==` computes
+pub same_bytes : (xs ys : List ℕ) → bytes_eq xs ys ≡ same xs ys
+unfolding same
+same_bytes [] [] = refl
+same_bytes [] (y ∷ ys) = refl
+same_bytes (x ∷ xs) [] = refl
+same_bytes (x ∷ xs) (y ∷ ys) = rw (same_bytes xs ys)
 
 -- ---------------------------------------------------------------- `tab`
 

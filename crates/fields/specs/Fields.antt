@@ -1,19 +1,8 @@
 -- What is left of a line at a position: the code's answers as the fields that they stand for.
 use Rattle.std.specs.Prelude.{ℕ, suc, ◌+◌, ◌*◌, ◌≤◌, ◌<◌, ◌^◌, ◌-◌, ◌≡◌, Bool, true, false, List, ◌∷◌, ◌++◌, [], eqb, leb, ltb, length, get_or, drop, take}
-use Rattle.std.proofs.Math.Option.{Option, none, some}
+use Rattle.std.specs.Prelude.{Option, None, Some, IfSome, option_map}
 use Rattle.spec.specs.Text.{split, comma, number, same, horner, all_digits}
 use Rattle.tables.specs.Tables.{pick, run}
-use Rattle.fields.specs.declared.Cursor.{Cursor}
-use Rattle.fields.specs.declared.Parsed.{Parsed}
-use Rattle.fields.specs.declared.Parsed.TheVariants.{Number, Unread}
-use Rattle.fields.specs.declared.Decimal.{Decimal}
-use Rattle.fields.specs.declared.Decimal.TheVariants.{Value, Malformed}
-use Rattle.fields.specs.declared.Place.{Place}
-use Rattle.fields.specs.declared.Place.TheVariants.{At, Nowhere}
-use Rattle.fields.specs.declared.Keyword.{Keyword}
-use Rattle.fields.specs.declared.Keyword.TheVariants.{Word, Unknown}
-use Rattle.fields.specs.declared.Listed.{Listed}
-use Rattle.fields.specs.declared.Listed.TheVariants.{Numbers, Broken}
 
 -- ---------------------------------------------------------------- marks
 
@@ -33,16 +22,12 @@ fields_from s p = pick (leb p (length s)) (split comma (drop p s)) []
 
 -- ---------------------------------------------------------------- numbers
 
-abbrev pub parsed_of : Parsed → Option ℕ
-parsed_of (Number v) = some v
-parsed_of Unread = none
-
 abbrev pub small : ℕ → Option ℕ
-small n = pick (ltb n (2 ^ 64)) (some n) none
+small n = pick (ltb n (2 ^ 64)) (Some n) None
 
 -- digits behind others whose number is v, as a number below 2 ^ 64
 unfoldable pub digits_from : ℕ → List ℕ → Option ℕ
-digits_from v ds = pick (all_digits ds) (small (horner v ds)) none
+digits_from v ds = pick (all_digits ds) (small (horner v ds)) None
 
 -- a first field's value, and the fields behind it
 pub record Taken : Type 0 where
@@ -50,25 +35,21 @@ pub record Taken : Type 0 where
   pub rest : List (List ℕ)
 
 abbrev pub taken : Option ℕ → List (List ℕ) → Option Taken
-taken none ws = none
-taken (some v) ws = some (record { value = v; rest = ws })
+taken None ws = None
+taken (Some v) ws = Some (record { value = v; rest = ws })
 
 unfoldable pub first_number : List (List ℕ) → Option Taken
-first_number [] = none
+first_number [] = None
 first_number (w ∷ ws) = taken (number w) ws
 
-abbrev pub decimal_of : List ℕ → Decimal → Option Taken
-decimal_of s (Value v c) = some (record { value = v; rest = fields_from s c.at })
-decimal_of s Malformed = none
+-- a value and the position of the field behind it, as the fields that they stand for
+abbrev pub taken_at : List ℕ → Option (ℕ × ℕ) → Option Taken
+taken_at s = option_map (λ r. record { value = r.0; rest = fields_from s r.1 })
 
 -- a number takes two bytes, its comma among them
-abbrev pub Ahead : List ℕ → ℕ → Decimal → Type 0
-Ahead s p (Value v c) = (p + 2 ≤ c.at) × (c.at ≤ length s + 1)
-Ahead s p Malformed = Unit {0}
-
-pub record NumberAt (s : List ℕ) (p : ℕ) (r : Decimal) : Type 0 where
-  pub answer : decimal_of s r ≡ first_number (fields_from s p)
-  pub ahead : Ahead s p r
+pub record NumberAt (s : List ℕ) (p : ℕ) (r : Option (ℕ × ℕ)) : Type 0 where
+  pub answer : taken_at s r ≡ first_number (fields_from s p)
+  pub ahead : IfSome r (λ x. (p + 2 ≤ x.1) × (x.1 ≤ length s + 1))
 
 -- from p to i stand the digits of v, and no comma
 pub record Digits (s : List ℕ) (p i v : ℕ) : Type 0 where
@@ -80,82 +61,59 @@ pub record Digits (s : List ℕ) (p i v : ℕ) : Type 0 where
   pub value : horner 0 (take (i - p) (drop p s)) ≡ v
 
 -- a number that is read is the one that stands there
-pub record QuickAt (s : List ℕ) (p : ℕ) (r : Decimal) : Type 0 where
-  pub right : (v : ℕ) (c : Cursor) → r ≡ Value v c → NumberAt s p (Value v c)
+pub record QuickAt (s : List ℕ) (p : ℕ) (r : Option (ℕ × ℕ)) : Type 0 where
+  pub right : IfSome r (λ x. NumberAt s p (Some x))
 
 -- a digit that is read is the whole field that stands there
-pub record LoneAt (s : List ℕ) (p d : ℕ) : Type 0 where
-  pub right : d < 10 → NumberAt s p (Value d (record { at = p + 2 }))
+pub record LoneAt (s : List ℕ) (p : ℕ) (r : Option ℕ) : Type 0 where
+  pub right : IfSome r (λ d. NumberAt s p (Some (d, p + 2)))
 
 abbrev pub cons_number : Option ℕ → Option (List ℕ) → Option (List ℕ)
-cons_number none xs = none
-cons_number (some x) none = none
-cons_number (some x) (some xs) = some (x ∷ xs)
+cons_number None xs = None
+cons_number (Some x) None = None
+cons_number (Some x) (Some xs) = Some (x ∷ xs)
 
 unfoldable pub numbers_of : List (List ℕ) → Option (List ℕ)
-numbers_of [] = some []
+numbers_of [] = Some []
 numbers_of (w ∷ ws) = cons_number (number w) (numbers_of ws)
 
 -- numbers behind others
 unfoldable pub onto : List ℕ → Option (List ℕ) → Option (List ℕ)
-onto xs none = none
-onto xs (some ys) = some (xs ++ ys)
-
-abbrev pub listed_of : List ℕ → ℕ → Listed → Option (List ℕ)
-listed_of ls used (Numbers n) = some (run ls used n)
-listed_of ls used Broken = none
+onto xs None = None
+onto xs (Some ys) = Some (xs ++ ys)
 
 -- below an index, two lists are the same
 pub record Kept (n : ℕ) (u t : List ℕ) : Type 0 where
   pub same : (i : ℕ) → i < n → get_or t i 0 ≡ get_or u i 0
 
-abbrev pub Fewer : List ℕ → ℕ → Listed → Type 0
-Fewer s p (Numbers n) = n * 2 ≤ length s + 1 - p
-Fewer s p Broken = Unit {0}
-
-pub record Listing (s : List ℕ) (p : ℕ) (u t : List ℕ) (used : ℕ) (r : Listed) : Type 0 where
-  pub answer : listed_of t used r ≡ numbers_of (fields_from s p)
-  pub fewer : Fewer s p r
+-- the numbers to the line's end stand in t behind the first `used`, as many as r says
+pub record Listing (s : List ℕ) (p : ℕ) (u t : List ℕ) (used : ℕ) (r : Option ℕ) : Type 0 where
+  pub answer : option_map (λ n. run t used n) r ≡ numbers_of (fields_from s p)
+  pub fewer : IfSome r (λ n. n * 2 ≤ length s + 1 - p)
   pub kept : Kept used u t
 
 -- ---------------------------------------------------------------- keywords
 
 abbrev after : Option ℕ → Option ℕ
-after none = none
-after (some k) = some (suc k)
+after None = None
+after (Some k) = Some (suc k)
 
 -- the place of a word in a list
 unfoldable pub position : List ℕ → List (List ℕ) → Option ℕ
-position w [] = none
-position w (v ∷ vs) = elim (same v w) [ true ↦ some 0 | false ↦ after (position w vs) ]
-
-unfoldable pub added : ℕ → Option ℕ → Option ℕ
-added k none = none
-added k (some j) = some (k + j)
-
-abbrev pub place_of : Place → Option ℕ
-place_of (At k) = some k
-place_of Nowhere = none
+position w [] = None
+position w (v ∷ vs) = elim (same v w) [ true ↦ Some 0 | false ↦ after (position w vs) ]
 
 abbrev pub first_word : List (List ℕ) → List (List ℕ) → Option Taken
-first_word vs [] = none
+first_word vs [] = None
 first_word vs (w ∷ ws) = taken (position w vs) ws
 
-abbrev pub word_of : List ℕ → Keyword → Option Taken
-word_of s (Word k c) = some (record { value = k; rest = fields_from s c.at })
-word_of s Unknown = none
-
-abbrev pub Behind : List ℕ → ℕ → Keyword → Type 0
-Behind s p (Word k c) = (p + 1 ≤ c.at) × (c.at ≤ length s + 1)
-Behind s p Unknown = Unit {0}
-
-pub record WordAt (s vs : List ℕ) (p : ℕ) (r : Keyword) : Type 0 where
-  pub answer : word_of s r ≡ first_word (split comma vs) (fields_from s p)
-  pub ahead : Behind s p r
+pub record WordAt (s vs : List ℕ) (p : ℕ) (r : Option (ℕ × ℕ)) : Type 0 where
+  pub answer : taken_at s r ≡ first_word (split comma vs) (fields_from s p)
+  pub ahead : IfSome r (λ x. (p + 1 ≤ x.1) × (x.1 ≤ length s + 1))
 
 -- what stands from s to e of the words is the k-th of them
 pub record Tried (vs : List ℕ) (k s e : ℕ) : Type 0 where
-  pub place : s ≤ e → e ≤ length vs → position (take (e - s) (drop s vs)) (split comma vs) ≡ some k
+  pub place : s ≤ e → e ≤ length vs → position (take (e - s) (drop s vs)) (split comma vs) ≡ Some k
 
 pub record Same (vs w : List ℕ) (s e : ℕ) (r : Bool) : Type 0 where
   pub low : r ≡ true → s ≤ e

@@ -4,7 +4,7 @@ use mathlib.Core.Path.{◌≡◌, refl, sym, ap, subst, ◌∙◌}
 use mathlib.Core.Bool.{Bool, true, false}
 use mathlib.Core.Logic.{inl, inr}
 use mathlib.Core.List.{List, ◌∷◌, append_assoc, []}
-use mathlib.Core.Option.{Option, none, some}
+use Rattle.std.specs.Prelude.{Option, None, Some, Ok, Err}
 use native.Mathlib.Omega.{arith}
 use native.Mathlib.Nat.{mul-le-mul, zero-add}
 use native.Mathlib.Numerals.{add-one}
@@ -18,9 +18,6 @@ use Rattle.figures.specs.Lines.{count_limit, line_limit, done_of, Read, refused,
 use Rattle.figures.specs.Totals.{nothing, with_number, Small, Sound, range_of, moments_of, figures_of, no_lines, with_line, with_lines, printed, Held, StepAt, onto, of_columns}
 use Rattle.figures.specs.declared.Totals.{Totals}
 use Rattle.figures.specs.declared.Columns.{Columns}
-use Rattle.figures.specs.declared.Step.{Step}
-use Rattle.figures.specs.declared.Step.TheVariants.{Next, Bad}
-use Rattle.figures.specs.declared.Counted.TheVariants.{Refused, Lines}
 use Rattle.figures.proofs.Variance.{no_deficit}
 use Rattle.figures.proofs.Lines.{done_limits, too_many, text_ends}
 
@@ -124,15 +121,15 @@ few_lines k r ds = by (leb k line_limit) refl
 record Joined (o : Option Done) (r : Read) (ds : List Done) : Type 0 where
   first : Done
   rest : List Done
-  is_first : o ≡ some first
+  is_first : o ≡ Some first
   are_rest : r ≡ lines rest
   both : ds ≡ first ∷ rest
 
 joined_lines : (k : ℕ) (o : Option Done) (r : Read) (ds : List Done) → joined k o r ≡ lines ds → Joined o r ds
 unfolding joined
-joined_lines k none r ds e = absurd (let z : ◌≡◌ {A = ℕ} 0 1 = cc in omega arith)
-joined_lines k (some d) (refused n l) ds e = absurd (let z : ◌≡◌ {A = ℕ} 0 1 = cc in omega arith)
-joined_lines k (some d) (lines es) ds e = record { first = d; rest = es; is_first = refl; are_rest = refl; both = cc }
+joined_lines k None r ds e = absurd (let z : ◌≡◌ {A = ℕ} 0 1 = cc in omega arith)
+joined_lines k (Some d) (refused n l) ds e = absurd (let z : ◌≡◌ {A = ℕ} 0 1 = cc in omega arith)
+joined_lines k (Some d) (lines es) ds e = record { first = d; rest = es; is_first = refl; are_rest = refl; both = cc }
 
 none_readable : (k : ℕ) (ds : List Done) → k ≤ suc line_limit → lines [] ≡ lines ds → Readable k ds
 unfolding Limited all_instructions all_storages
@@ -201,11 +198,11 @@ data Gathers (c : Columns) : Read → Type 0 where
   nothing_read : c ≡ no_lines → Gathers c (lines [])
   all_read : (d : Done) (ds : List Done) → Readable 1 (d ∷ ds) → c ≡ columns_of (d ∷ ds) → Gathers c (lines (d ∷ ds))
 
-gathers : (ps : List (List ℕ)) (c : Columns) → Lines c ≡ onto no_lines (read_from 1 ps) → Gathers c (read_from 1 ps)
+gathers : (ps : List (List ℕ)) (c : Columns) → Ok c ≡ onto no_lines (read_from 1 ps) → Gathers c (read_from 1 ps)
 unfolding onto with_lines
 gathers ps c = by (read_from 1 ps) (λ ds q. readable 1 ps ds (omega arith) q)
   where
-    by : (r : Read) → ((ds : List Done) → r ≡ lines ds → Readable 1 ds) → Lines c ≡ onto no_lines r → Gathers c r
+    by : (r : Read) → ((ds : List Done) → r ≡ lines ds → Readable 1 ds) → Ok c ≡ onto no_lines r → Gathers c r
     by (refused n l) f e = absurd (let z : ◌≡◌ {A = ℕ} 0 1 = cc in omega arith)
     by (lines []) f e = nothing_read (cc)
     by (lines (d ∷ ds)) f e = let r = f (d ∷ ds) refl in let z : c ≡ with_lines no_lines (d ∷ ds) = cc in all_read d ds r (z ∙ columns_are d ds r)
@@ -239,7 +236,7 @@ answered_by room c (nothing_read e) = none_counted room c (rw e)
 answered_by room c (all_read d ds r e) = rw e (some_counted room (columns_of (d ∷ ds)) (counted d ds) ∙ ap (λ (x : List ℕ). spec-answer.fitted room x) (annex_is (d ∷ ds)))
 
 -- what `count_lines` hands on
-module _ (text : List ℕ) (c : Columns) (e : Lines c ≡ onto no_lines (read_from 1 (split line_feed text))) where
+module _ (text : List ℕ) (c : Columns) (e : Ok c ≡ onto no_lines (read_from 1 (split line_feed text))) where
   pub held : Held c
   held = held_by c (gathers (split line_feed text) c e)
 
@@ -247,18 +244,18 @@ module _ (text : List ℕ) (c : Columns) (e : Lines c ≡ onto no_lines (read_fr
   unfolding answer
   answered room = answered_by room c (gathers (split line_feed text) c e)
 
-refused_by : (n l room : ℕ) (r : Read) → Refused n l ≡ onto no_lines r → of_lines room r ≡ spec-answer.refused n l
+refused_by : (n l room : ℕ) (r : Read) → Err (n, l) ≡ onto no_lines r → of_lines room r ≡ spec-answer.refused n l
 unfolding onto of_lines
-refused_by n l room (refused m k) e = cc
+refused_by n l room (refused m k) e = let t : ◌≡◌ {A = ℕ × ℕ} (n, l) (m, k) = cc in rw (ap (λ (x : ℕ × ℕ). x.0) t, ap (λ (x : ℕ × ℕ). x.1) t)
 refused_by n l room (lines ds) e = cc
 
-pub answered_refused : (text : List ℕ) (n l room : ℕ) → Refused n l ≡ onto no_lines (read_from 1 (split line_feed text)) → answer text room ≡ spec-answer.refused n l
+pub answered_refused : (text : List ℕ) (n l room : ℕ) → Err (n, l) ≡ onto no_lines (read_from 1 (split line_feed text)) → answer text room ≡ spec-answer.refused n l
 unfolding answer
 answered_refused text n l room e = refused_by n l room (read_from 1 (split line_feed text)) e
 
 -- ---------------------------------------------------------------- one line behind others
 
-onto_more : (c : Columns) (k i s : ℕ) (r : Read) → onto c (joined k (some (record { instructions = i; storages = s })) r) ≡ onto (with_line c i s) r
+onto_more : (c : Columns) (k i s : ℕ) (r : Read) → onto c (joined k (Some (record { instructions = i; storages = s })) r) ≡ onto (with_line c i s) r
 unfolding onto joined with_lines
 onto_more c k i s (refused n l) = refl
 onto_more c k i s (lines ds) = refl
@@ -279,39 +276,38 @@ pub going_start : (s : List ℕ) (c : Columns) → c ≡ no_lines → Going s c 
 going_start s c e = rw e (record { low = omega arith; high = omega arith; within = omega arith; instructions = small_none; storages = small_none; reads = refl })
 
 module _ (s : List ℕ) (c : Columns) (k at : ℕ) (g : Going s c k at) where
-  pub going_over : at < length s → line_limit < k → Refused 41 k ≡ onto no_lines (read_from 1 (split line_feed s))
+  pub going_over : at < length s → line_limit < k → Err (41, k) ≡ onto no_lines (read_from 1 (split line_feed s))
   unfolding onto
   going_over h m = rw (too_many s at k h m) at g.reads
 
-  pub going_end : length s ≤ at → Lines c ≡ onto no_lines (read_from 1 (split line_feed s))
+  pub going_end : length s ≤ at → Ok c ≡ onto no_lines (read_from 1 (split line_feed s))
   unfolding onto with_lines
   going_end h = rw (text_ends s at k h) at g.reads
 
-  pub going_bad : (r : Step) → k ≤ line_limit → StepAt s at r → r ≡ Bad → Refused 42 k ≡ onto no_lines (read_from 1 (split line_feed s))
+  pub going_bad : k ≤ line_limit → StepAt s at None → Err (42, k) ≡ onto no_lines (read_from 1 (split line_feed s))
   unfolding onto
-  going_bad r h a e = let b = rw e at a in rw (b.step k h) at g.reads
+  going_bad h a = rw (a.step k h) at g.reads
 
-  pub going_more : (r : Step) (i n next : ℕ) (d : Columns) → k ≤ line_limit → StepAt s at r → r ≡ Next i n next → d ≡ with_line c i n → Going s d (k + 1) next
-  unfolding with_line
-  going_more r i n next d h a e q =
-      let b = rw e at a in
-      let z : k + 1 - 1 ≡ k - 1 + 1 = omega (arith, g.low) in
-      rw q
-      (record {
-        low = omega arith;
-        high = omega arith;
-        within = b.step.1;
-        instructions = rw z (small_more (k - 1) c.instructions i g.instructions b.step.2);
-        storages = rw z (small_more (k - 1) c.storages n g.storages b.step.3);
-        reads = rw add-one (sym (onto_more c k i n _) ∙ ap (λ (x : Read). onto c x) (sym (b.step.4 k h)) ∙ g.reads);
-      })
+  module _ (i n next : ℕ) (a : StepAt s at (Some (i, n, next))) where
+    pub going_more : (d : Columns) → k ≤ line_limit → d ≡ with_line c i n → Going s d (k + 1) next
+    unfolding with_line
+    going_more d h q =
+        let z : k + 1 - 1 ≡ k - 1 + 1 = omega (arith, g.low) in
+        rw q
+        (record {
+          low = omega arith;
+          high = omega arith;
+          within = a.step.1;
+          instructions = rw z (small_more (k - 1) c.instructions i g.instructions a.step.2);
+          storages = rw z (small_more (k - 1) c.storages n g.storages a.step.3);
+          reads = rw add-one (sym (onto_more c k i n _) ∙ ap (λ (x : Read). onto c x) (sym (a.step.4 k h)) ∙ g.reads);
+        })
 
-  -- there is room for one line more, and the text that is left gets shorter
-  pub going_room : (r : Step) (i n next : ℕ) → k ≤ line_limit → StepAt s at r → r ≡ Next i n next
-      → (Small c.instructions.count c.instructions) × (Small c.storages.count c.storages) × (c.instructions.count < line_limit) × (c.storages.count < line_limit) × (i ≤ count_limit) × (n ≤ count_limit)
-  going_room r i n next h a e =
-      let b = rw e at a in
-      (own g.instructions, own g.storages, omega (arith, g.low, g.instructions.count), omega (arith, g.low, g.storages.count), b.step.2, b.step.3)
+    -- there is room for one line more, and the text that is left gets shorter
+    pub going_room : k ≤ line_limit
+        → (Small c.instructions.count c.instructions) × (Small c.storages.count c.storages) × (c.instructions.count < line_limit) × (c.storages.count < line_limit) × (i ≤ count_limit) × (n ≤ count_limit)
+    going_room h =
+        (own g.instructions, own g.storages, omega (arith, g.low, g.instructions.count), omega (arith, g.low, g.storages.count), a.step.2, a.step.3)
 
-  pub going_less : (r : Step) (i n next : ℕ) → StepAt s at r → r ≡ Next i n next → length s - next < length s - at
-  going_less r i n next a e = let b = rw e at a in omega (arith, b.step.0, b.step.1)
+    pub going_less : length s - next < length s - at
+    going_less = omega (arith, a.step.0, a.step.1)

@@ -3,7 +3,7 @@ use Prim.Native.Nat.{ℕ, suc, ◌+◌, ◌-◌, ◌≤◌, ◌<◌}
 use mathlib.Core.Path.{◌≡◌, refl, sym, ap, ◌∙◌}
 use mathlib.Core.Bool.{Bool, true, false, ◌&&◌}
 use mathlib.Core.List.{List, ◌∷◌, []}
-use mathlib.Core.Option.{Option, none, some}
+use Rattle.std.specs.Prelude.{Option, None, Some}
 use native.Mathlib.Omega.{arith}
 use lib.Dec.{eqb, leb}
 use lib.ListN.{length, take, drop, length-drop, drop_of_length-le}
@@ -12,77 +12,69 @@ use borrow.Author.Tests.{le-leb, lt-leb, leb-true}
 use Rattle.spec.specs.Text.{bytes, same, split, comma, line_feed, number}
 use Rattle.spec.proofs.Split.{split_step}
 use Rattle.fields.specs.Fields.{Found, Taken, taken, first_number, cons_number, numbers_of, position, first_word, fields_from, NumberAt, WordAt}
-use Rattle.fields.specs.declared.Cursor.{Cursor}
-use Rattle.fields.specs.declared.Keyword.{Keyword}
-use Rattle.fields.specs.declared.Keyword.TheVariants.{Word, Unknown}
-use Rattle.fields.specs.declared.Decimal.{Decimal}
-use Rattle.fields.specs.declared.Decimal.TheVariants.{Value, Malformed}
 use Rattle.fields.proofs.Marks.{split_from, split_some, fields_start}
 use Rattle.figures.specs.Annex.{Done}
 use Rattle.figures.specs.Lines.{count_limit, line_limit, bounded, counts, done_of, Read, refused, lines, joined, few_enough, last_part, read_from}
 use Rattle.figures.specs.Totals.{line_of, StepAt}
-use Rattle.figures.specs.declared.Line.{Line}
-use Rattle.figures.specs.declared.Line.TheVariants.{Done as IsDone, Malformed as Unread}
-use Rattle.figures.specs.declared.Step.TheVariants.{Next, Bad}
 
 -- ---------------------------------------------------------------- the numbers of a line
 
-pub bounded_in : (i s : ℕ) → i ≤ count_limit → s ≤ count_limit → some (record { instructions = i; storages = s }) ≡ bounded i s
+pub bounded_in : (i s : ℕ) → i ≤ count_limit → s ≤ count_limit → Some (record { instructions = i; storages = s }) ≡ bounded i s
 unfolding bounded
 bounded_in i s h g = rw (bounded, le-leb i count_limit h, le-leb s count_limit g)
 
-pub bounded_first : (i s : ℕ) → count_limit < i → none ≡ bounded i s
+pub bounded_first : (i s : ℕ) → count_limit < i → None ≡ bounded i s
 unfolding bounded
 bounded_first i s h = rw (bounded, lt-leb i count_limit h)
 
-pub bounded_second : (i s : ℕ) → i ≤ count_limit → count_limit < s → none ≡ bounded i s
+pub bounded_second : (i s : ℕ) → i ≤ count_limit → count_limit < s → None ≡ bounded i s
 unfolding bounded
 bounded_second i s h g = rw (bounded, le-leb i count_limit h, lt-leb s count_limit g)
 
 pub ruleset bounds = (bounded_in, bounded_first, bounded_second)
 
 -- a number, and those behind it
-pub number_more : (ws : List (List ℕ)) (v : ℕ) (rest : List (List ℕ)) → some (record { value = v; rest = rest }) ≡ first_number ws
-    → numbers_of ws ≡ cons_number (some v) (numbers_of rest)
+pub number_more : (ws : List (List ℕ)) (v : ℕ) (rest : List (List ℕ)) → Some (record { value = v; rest = rest }) ≡ first_number ws
+    → numbers_of ws ≡ cons_number (Some v) (numbers_of rest)
 unfolding first_number numbers_of
 number_more [] v rest e = cc
 number_more (w ∷ ws) v rest e = by (number w) e
   where
-    by : (o : Option ℕ) → some (record { value = v; rest = rest }) ≡ taken o ws → cons_number o (numbers_of ws) ≡ cons_number (some v) (numbers_of rest)
-    by none q = cc
-    by (some x) q = let t : ◌≡◌ {A = Taken} (record { value = x; rest = ws }) (record { value = v; rest = rest }) = cc in rw (ap (λ (u : Taken). u.value) t, ap (λ (u : Taken). u.rest) t)
+    by : (o : Option ℕ) → Some (record { value = v; rest = rest }) ≡ taken o ws → cons_number o (numbers_of ws) ≡ cons_number (Some v) (numbers_of rest)
+    by None q = cc
+    by (Some x) q = let t : ◌≡◌ {A = Taken} (record { value = x; rest = ws }) (record { value = v; rest = rest }) = cc in rw (ap (λ (u : Taken). u.value) t, ap (λ (u : Taken). u.rest) t)
 
 -- where no number is first, there is no field, or the fields are not numbers
-pub number_none : (f : Option (List ℕ) → Option Done) (ws : List (List ℕ)) → f none ≡ none → f (some []) ≡ none → none ≡ first_number ws → none ≡ f (numbers_of ws)
+pub number_none : (f : Option (List ℕ) → Option Done) (ws : List (List ℕ)) → f None ≡ None → f (Some []) ≡ None → None ≡ first_number ws → None ≡ f (numbers_of ws)
 unfolding first_number numbers_of
 number_none f [] p q e = sym q
 number_none f (w ∷ ws) p q e = by (number w) e
   where
-    by : (o : Option ℕ) → none ≡ taken o ws → none ≡ f (cons_number o (numbers_of ws))
-    by none h = sym p
-    by (some x) h = cc
+    by : (o : Option ℕ) → None ≡ taken o ws → None ≡ f (cons_number o (numbers_of ws))
+    by None h = sym p
+    by (Some x) h = cc
 
 -- no field may follow the third number
-pub no_fourth : (i s n : ℕ) (ws : List (List ℕ)) → (ws ≡ [] → ⊥) → none ≡ counts (cons_number (some i) (cons_number (some s) (cons_number (some n) (numbers_of ws))))
+pub no_fourth : (i s n : ℕ) (ws : List (List ℕ)) → (ws ≡ [] → ⊥) → None ≡ counts (cons_number (Some i) (cons_number (Some s) (cons_number (Some n) (numbers_of ws))))
 unfolding numbers_of counts
 no_fourth i s n [] h = absurd (h refl)
 no_fourth i s n (w ∷ ws) h = by (number w) (numbers_of ws)
   where
-    by : (o : Option ℕ) (p : Option (List ℕ)) → none ≡ counts (cons_number (some i) (cons_number (some s) (cons_number (some n) (cons_number o p))))
-    by none p = refl
-    by (some x) none = refl
-    by (some x) (some xs) = refl
+    by : (o : Option ℕ) (p : Option (List ℕ)) → None ≡ counts (cons_number (Some i) (cons_number (Some s) (cons_number (Some n) (cons_number o p))))
+    by None p = refl
+    by (Some x) None = refl
+    by (Some x) (Some xs) = refl
 
 -- three numbers
-pub three : (i s n : ℕ) (ws : List (List ℕ)) → ws ≡ [] → bounded i s ≡ counts (cons_number (some i) (cons_number (some s) (cons_number (some n) (numbers_of ws))))
+pub three : (i s n : ℕ) (ws : List (List ℕ)) → ws ≡ [] → bounded i s ≡ counts (cons_number (Some i) (cons_number (Some s) (cons_number (Some n) (numbers_of ws))))
 unfolding numbers_of counts
 three i s n ws e = rw e
 
 -- ---------------------------------------------------------------- the word
 
 word_by : (t : Bool) (ws : List (List ℕ)) → Option Taken
-word_by true ws = some (record { value = 0; rest = ws })
-word_by false ws = none
+word_by true ws = Some (record { value = 0; rest = ws })
+word_by false ws = None
 
 word_is : (w : List ℕ) (ws : List (List ℕ)) (t : Bool) → same (bytes "done") w ≡ t → first_word (split comma (bytes "done")) (w ∷ ws) ≡ word_by t ws
 unfolding split position word_by
@@ -93,20 +85,20 @@ done_is : (w : List ℕ) (ws : List (List ℕ)) → same (bytes "done") w ≡ tr
 unfolding done_of
 done_is w ws e = rw (done_of, e)
 
-done_not : (w : List ℕ) (ws : List (List ℕ)) → same (bytes "done") w ≡ false → done_of (w ∷ ws) ≡ none
+done_not : (w : List ℕ) (ws : List (List ℕ)) → same (bytes "done") w ≡ false → done_of (w ∷ ws) ≡ None
 unfolding done_of
 done_not w ws e = rw (done_of, e)
 
-pub word_none : (ws : List (List ℕ)) → none ≡ first_word (split comma (bytes "done")) ws → none ≡ done_of ws
+pub word_none : (ws : List (List ℕ)) → None ≡ first_word (split comma (bytes "done")) ws → None ≡ done_of ws
 unfolding done_of word_by
 word_none [] e = refl
 word_none (w ∷ ws) e = by (same (bytes "done") w) refl
   where
-    by : (t : Bool) → same (bytes "done") w ≡ t → none ≡ done_of (w ∷ ws)
+    by : (t : Bool) → same (bytes "done") w ≡ t → None ≡ done_of (w ∷ ws)
     by true q = let z = e ∙ word_is w ws true q in cc
     by false q = sym (done_not w ws q)
 
-pub word_more : (ws : List (List ℕ)) (k : ℕ) (rest : List (List ℕ)) → some (record { value = k; rest = rest }) ≡ first_word (split comma (bytes "done")) ws → done_of ws ≡ counts (numbers_of rest)
+pub word_more : (ws : List (List ℕ)) (k : ℕ) (rest : List (List ℕ)) → Some (record { value = k; rest = rest }) ≡ first_word (split comma (bytes "done")) ws → done_of ws ≡ counts (numbers_of rest)
 unfolding word_by
 word_more [] k rest e = cc
 word_more (w ∷ ws) k rest e = by (same (bytes "done") w) refl
@@ -120,40 +112,40 @@ word_more (w ∷ ws) k rest e = by (same (bytes "done") w) refl
 
 -- ---------------------------------------------------------------- from field to field
 
-module _ (s : List ℕ) (r : Keyword) (w : WordAt s (bytes "done") 0 r) where
-  pub line_no_word : r ≡ Unknown → none ≡ done_of (split comma s)
-  line_no_word e = let a = rw e at w in rw (fields_start s) (word_none (fields_from s 0) a.answer)
+module _ (s : List ℕ) where
+  pub line_no_word : WordAt s (bytes "done") 0 None → None ≡ done_of (split comma s)
+  line_no_word w = rw (fields_start s) (word_none (fields_from s 0) w.answer)
 
-  pub line_word : (k : ℕ) (c : Cursor) → r ≡ Word k c → done_of (split comma s) ≡ counts (numbers_of (fields_from s c.at))
-  line_word k c e = let a = rw e at w in rw (fields_start s) (word_more (fields_from s 0) k (fields_from s c.at) a.answer)
+  pub line_word : (k next : ℕ) → WordAt s (bytes "done") 0 (Some (k, next)) → done_of (split comma s) ≡ counts (numbers_of (fields_from s next))
+  line_word k next w = rw (fields_start s) (word_more (fields_from s 0) k (fields_from s next) w.answer)
 
 -- the count where one number, or two, stand before the others
 abbrev pub behind_one : ℕ → Option (List ℕ) → Option Done
-behind_one i o = counts (cons_number (some i) o)
+behind_one i o = counts (cons_number (Some i) o)
 
 abbrev pub behind_two : ℕ → ℕ → Option (List ℕ) → Option Done
-behind_two i n o = counts (cons_number (some i) (cons_number (some n) o))
+behind_two i n o = counts (cons_number (Some i) (cons_number (Some n) o))
 
 -- f is what the fields before this one make of the numbers from here on
-module _ (s : List ℕ) (p : ℕ) (f : Option (List ℕ) → Option Done) (q : done_of (split comma s) ≡ f (numbers_of (fields_from s p))) (r : Decimal) (a : NumberAt s p r) where
-  pub line_no_number : f none ≡ none → f (some []) ≡ none → r ≡ Malformed → none ≡ done_of (split comma s)
-  line_no_number g h e = let b = rw e at a in number_none f (fields_from s p) g h b.answer ∙ sym q
+module _ (s : List ℕ) (p : ℕ) (f : Option (List ℕ) → Option Done) (q : done_of (split comma s) ≡ f (numbers_of (fields_from s p))) where
+  pub line_no_number : f None ≡ None → f (Some []) ≡ None → NumberAt s p None → None ≡ done_of (split comma s)
+  line_no_number g h a = number_none f (fields_from s p) g h a.answer ∙ sym q
 
-  pub line_number : (v : ℕ) (c : Cursor) → r ≡ Value v c → done_of (split comma s) ≡ f (cons_number (some v) (numbers_of (fields_from s c.at)))
-  line_number v c e = let b = rw e at a in q ∙ ap f (number_more (fields_from s p) v (fields_from s c.at) b.answer)
+  pub line_number : (v next : ℕ) → NumberAt s p (Some (v, next)) → done_of (split comma s) ≡ f (cons_number (Some v) (numbers_of (fields_from s next)))
+  line_number v next a = q ∙ ap f (number_more (fields_from s p) v (fields_from s next) a.answer)
 
 -- ---------------------------------------------------------------- what a line counts is within the limit
 
 Limits : Option Done → Type 0
-Limits none = Unit {0}
-Limits (some d) = (d.instructions ≤ count_limit) × (d.storages ≤ count_limit)
+Limits None = Unit {0}
+Limits (Some d) = (d.instructions ≤ count_limit) × (d.storages ≤ count_limit)
 
 limits_bounded : (i s : ℕ) → Limits (bounded i s)
 unfolding bounded Limits
 limits_bounded i s = by (leb i count_limit) (leb s count_limit) refl refl
   where
     by : (t u : Bool) → leb i count_limit ≡ t → leb s count_limit ≡ u
-        → Limits (elim (t && u) as (λ _. Option Done) [ true ↦ some (record { instructions = i; storages = s }) | false ↦ none ])
+        → Limits (elim (t && u) as (λ _. Option Done) [ true ↦ Some (record { instructions = i; storages = s }) | false ↦ None ])
     by true true e f = (leb-true i count_limit e, leb-true s count_limit f)
     by true false e f = tt
     by false true e f = tt
@@ -161,12 +153,12 @@ limits_bounded i s = by (leb i count_limit) (leb s count_limit) refl refl
 
 limits_counts : (o : Option (List ℕ)) → Limits (counts o)
 unfolding counts Limits
-limits_counts none = tt
-limits_counts (some []) = tt
-limits_counts (some (i ∷ [])) = tt
-limits_counts (some (i ∷ s ∷ [])) = tt
-limits_counts (some (i ∷ s ∷ n ∷ [])) = limits_bounded i s
-limits_counts (some (i ∷ s ∷ n ∷ m ∷ ms)) = tt
+limits_counts None = tt
+limits_counts (Some []) = tt
+limits_counts (Some (i ∷ [])) = tt
+limits_counts (Some (i ∷ s ∷ [])) = tt
+limits_counts (Some (i ∷ s ∷ n ∷ [])) = limits_bounded i s
+limits_counts (Some (i ∷ s ∷ n ∷ m ∷ ms)) = tt
 
 limits_done : (ws : List (List ℕ)) → Limits (done_of ws)
 unfolding done_of Limits
@@ -177,7 +169,7 @@ limits_done (w ∷ ws) = by (same (bytes "done") w) refl
     by true e = rw (done_is w ws e) (limits_counts (numbers_of ws))
     by false e = rw (done_not w ws e) tt
 
-pub done_limits : (ws : List (List ℕ)) (d : Done) → done_of ws ≡ some d → (d.instructions ≤ count_limit) × (d.storages ≤ count_limit)
+pub done_limits : (ws : List (List ℕ)) (d : Done) → done_of ws ≡ Some d → (d.instructions ≤ count_limit) × (d.storages ≤ count_limit)
 unfolding Limits
 done_limits ws d e = rw e at (limits_done ws)
 
@@ -236,7 +228,7 @@ read_two k l ps e h = rw e (few k _ h)
 
 module _ (s : List ℕ) (at e : ℕ) (f : Found s at line_feed e) where
   -- no line feed ends the line
-  pub step_unended : at < length s → length s ≤ e → StepAt s at Bad
+  pub step_unended : at < length s → length s ≤ e → StepAt s at None
   step_unended h g =
       record {
         step =
@@ -251,15 +243,12 @@ module _ (s : List ℕ) (at e : ℕ) (f : Found s at line_feed e) where
       rw (split_from line_feed s at e f, le-leb (e + 1) (length s) (omega arith))
       (read_two k (take (e - at) (drop at s)) (split line_feed (drop (e + 1) s)) (split_some line_feed (drop (e + 1) s)) l)
 
-  module _ (h : e < length s) (r : Line) (q : line_of r ≡ done_of (split comma (take (e - at) (drop at s)))) where
-    pub step_done : (i n : ℕ) → r ≡ IsDone i n → StepAt s at (Next i n (e + 1))
-    step_done i n g =
-        let d : done_of (split comma (take (e - at) (drop at s))) ≡ some (record { instructions = i; storages = n }) = sym q ∙ ap line_of g in
-        let l = done_limits _ _ d in
-        record { step = (omega (arith, f.low), omega arith, l.0, l.1, λ k m. whole_line h k m ∙ rw d) }
+  module _ (h : e < length s) where
+    pub step_done : (i n : ℕ) → line_of (Some (i, n)) ≡ done_of (split comma (take (e - at) (drop at s))) → StepAt s at (Some (i, n, e + 1))
+    step_done i n q =
+        let l = done_limits _ _ (sym q) in
+        record { step = (omega (arith, f.low), omega arith, l.0, l.1, λ k m. whole_line h k m ∙ rw (← q)) }
 
-    pub step_malformed : r ≡ Unread → StepAt s at Bad
+    pub step_malformed : None ≡ done_of (split comma (take (e - at) (drop at s))) → StepAt s at None
     unfolding joined
-    step_malformed g =
-        let d : done_of (split comma (take (e - at) (drop at s))) ≡ none = sym q ∙ ap line_of g in
-        record { step = λ k m. whole_line h k m ∙ rw d }
+    step_malformed q = record { step = λ k m. whole_line h k m ∙ rw (← q) }

@@ -1,9 +1,9 @@
 -- A text whose length was measured, in the buffer or refused: 28 writes nothing.
-use Prim.Native.Nat.{ℕ, ◌+◌, ◌*◌, ◌/◌, ◌^◌, ◌≤◌, ◌<◌}
+use Prim.Native.Nat.{ℕ, ◌+◌, ◌/◌, ◌≤◌, ◌<◌}
 use mathlib.Core.Path.{◌≡◌, refl, sym, ap, ◌∙◌}
 use mathlib.Core.List.{List, ◌∷◌, ◌++◌}
+use Rattle.std.specs.Prelude.{Ok, Err}
 use native.Mathlib.Omega.{arith}
-use native.Mathlib.Nat.{mul-le-mul}
 use lib.ListN.{length, take, drop}
 use lib.Seq.{sets-eq, take_at, length-sets}
 use borrow.Author.Tests.{le-leb, lt-leb}
@@ -13,10 +13,9 @@ use Rattle.spec.specs.Answer as spec-answer
 use Rattle.text.specs.Put.{Put, sat, last}
 use Rattle.figures.specs.Fraction.{gcd, lowest}
 use Rattle.figures.specs.Annex.{slash, fraction}
-use Rattle.figures.specs.Totals.{Sound}
-use Rattle.figures.specs.declared.Totals.{Totals}
-use Rattle.figures.specs.Shown.{Answers}
-use Rattle.figures.specs.declared.Answer.{Answer}
+use Rattle.answers.specs.declared.Refused.{Refused}
+use Rattle.figures.specs.Shown.{refusal_number, Answers}
+use Rattle.figures.specs.declared.Refusal.{Refusal}
 
 -- ---------------------------------------------------------------- fractions, and the numbers they are made of
 
@@ -24,29 +23,19 @@ pub fraction_is : (a b g : ℕ) → g ≡ gcd a b → comma ∷ fraction (lowest
 unfolding fraction lowest
 fraction_is a b g e = rw e
 
-module _ (t : Totals) (s : Sound t) where
-  pub product_fits : t.count * t.squares < 2 ^ 64
-  product_fits =
-      let q : t.squares ≤ 4294836225000 = omega (arith, s.few, s.small.squares) in
-      let m : t.count * t.squares ≤ 1000 * 4294836225000 = mul-le-mul s.few q in
-      omega arith
-
-  pub count_fits : t.count * t.count < 2 ^ 64
-  count_fits = let m : t.count * t.count ≤ 1000 * 1000 = mul-le-mul s.few s.few in omega arith
-
 -- ---------------------------------------------------------------- the answer
 
 -- what is refused leaves the buffer as it was
-pub refuses : (a : spec-answer.Answer) (l : List ℕ) (n k : ℕ) → a ≡ refused n k → Answers a l l (Answer.Refused n k)
+pub refuses : (a : spec-answer.Answer) (l : List ℕ) (e : Refused Refusal) → a ≡ refused (refusal_number e.refusal) e.line → Answers a l l (Err e)
 unfolding left_in
-refuses a l n k e = rw e (record { answer = refl; left = refl; within = tt })
+refuses a l e q = rw q (record { answer = refl; left = refl; within = tt })
 
 module _ (P : List ℕ) (l : List ℕ) (end : ℕ) (m : end ≡ sat (0 + length P)) where
-  pub too_long : length l < end → Answers (fitted (length l) P) l l (Answer.Refused 28 0)
+  pub too_long : length l < end → Answers (fitted (length l) P) l l (Err (record { refusal = Refusal.LongAnnex; line = 0 }))
   unfolding fitted sat
-  too_long h = refuses _ l 28 0 (rw (fitted, lt-leb (length P) (length l) (omega arith)))
+  too_long h = refuses _ l (record { refusal = Refusal.LongAnnex; line = 0 }) (rw (fitted, lt-leb (length P) (length l) (omega arith)))
 
-  pub fits : {l' : List ℕ} {r : ℕ} → end ≤ length l → length l < last → Put l 0 P l' r → Answers (fitted (length l) P) l l' (Answer.Accepted end)
+  pub fits : {l' : List ℕ} {r : ℕ} → end ≤ length l → length l < last → Put l 0 P l' r → Answers (fitted (length l) P) l l' (Ok end)
   unfolding fitted sat left_in
   fits {l'} h k p =
       let n : end ≡ length P = omega arith in

@@ -1,6 +1,6 @@
 -- Reading `done` lines, with the refusals 41 and 42, and the answer for every text and every lent buffer.
 use Rattle.std.specs.Prelude.{ℕ, suc, true, false, ◌&&◌, List, ◌∷◌, [], leb}
-use Rattle.std.proofs.Math.Option.{Option, none, some}
+use Rattle.std.specs.Prelude.{Option, None, Some}
 use Rattle.spec.specs.Text.{bytes, same, split, comma, line_feed}
 use Rattle.spec.specs.Answer.{Answer, fitted}
 use Rattle.spec.specs.Answer as spec-answer
@@ -17,21 +17,21 @@ count_limit = 65535
 -- ---------------------------------------------------------------- a line
 
 unfoldable pub bounded : ℕ → ℕ → Option Done
-bounded i s = elim (leb i count_limit && leb s count_limit) [ true ↦ some (record { instructions = i; storages = s }) | false ↦ none ]
+bounded i s = elim (leb i count_limit && leb s count_limit) [ true ↦ Some (record { instructions = i; storages = s }) | false ↦ None ]
 
 -- INSTRUCTIONS, NEW STORAGES and NEXT, and no more
 unfoldable pub counts : Option (List ℕ) → Option Done
-counts none = none
-counts (some []) = none
-counts (some (i ∷ [])) = none
-counts (some (i ∷ s ∷ [])) = none
-counts (some (i ∷ s ∷ next ∷ [])) = bounded i s
-counts (some (i ∷ s ∷ next ∷ m ∷ ms)) = none
+counts None = None
+counts (Some []) = None
+counts (Some (i ∷ [])) = None
+counts (Some (i ∷ s ∷ [])) = None
+counts (Some (i ∷ s ∷ next ∷ [])) = bounded i s
+counts (Some (i ∷ s ∷ next ∷ m ∷ ms)) = None
 
 -- the fields of a line: the word `done`, and numbers
 unfoldable pub done_of : List (List ℕ) → Option Done
-done_of [] = none
-done_of (w ∷ ws) = elim (same (bytes "done") w) [ true ↦ counts (numbers_of ws) | false ↦ none ]
+done_of [] = None
+done_of (w ∷ ws) = elim (same (bytes "done") w) [ true ↦ counts (numbers_of ws) | false ↦ None ]
 
 -- ---------------------------------------------------------------- the lines of a text
 
@@ -41,9 +41,9 @@ pub data Read : Type 0 where
 
 -- line k, and what is read behind it
 unfoldable pub joined : ℕ → Option Done → Read → Read
-joined k none r = refused 42 k
-joined k (some d) (refused n l) = refused n l
-joined k (some d) (lines ds) = lines (d ∷ ds)
+joined k None r = refused 42 k
+joined k (Some d) (refused n l) = refused n l
+joined k (Some d) (lines ds) = lines (d ∷ ds)
 
 -- a line past the most is refused before it is read
 unfoldable pub few_enough : ℕ → Read → Read

@@ -1,6 +1,6 @@
 -- What the code keeps of the lines read so far, and the line that it prints of it.
 use Rattle.std.specs.Prelude.{ℕ, suc, ◌+◌, ◌-◌, ◌*◌, ◌≤◌, ◌<◌, min, max, ◌≡◌, true, false, List, ◌∷◌, ◌++◌, [], ◌⊎◌, eqb, length, drop}
-use Rattle.std.proofs.Math.Option.{Option, none, some}
+use Rattle.std.specs.Prelude.{Option, Some, MatchOption, option_map, Result, Ok, Err}
 use Rattle.spec.specs.Text.{digits, split, comma, line_feed}
 use Rattle.spec.specs.Answer as spec-answer
 use Rattle.figures.specs.Fraction.{lowest}
@@ -8,12 +8,6 @@ use Rattle.figures.specs.Annex.{Done, fraction}
 use Rattle.figures.specs.Lines.{Read, refused, lines, joined, read_from, line_limit, count_limit}
 use Rattle.figures.specs.declared.Totals.{Totals}
 use Rattle.figures.specs.declared.Columns.{Columns}
-use Rattle.figures.specs.declared.Line.{Line}
-use Rattle.figures.specs.declared.Line.TheVariants.{Done as IsDone, Malformed}
-use Rattle.figures.specs.declared.Step.{Step}
-use Rattle.figures.specs.declared.Step.TheVariants.{Next, Bad}
-use Rattle.figures.specs.declared.Counted.{Counted}
-use Rattle.figures.specs.declared.Counted.TheVariants.{Refused, Lines}
 
 -- ---------------------------------------------------------------- a column
 
@@ -75,28 +69,26 @@ printed c = figures_of c.instructions ++ figures_of c.storages
 
 -- ---------------------------------------------------------------- what the readers answer
 
-abbrev pub line_of : Line → Option Done
-line_of (IsDone i s) = some (record { instructions = i; storages = s })
-line_of Malformed = none
+abbrev pub line_of : Option (ℕ × ℕ) → Option Done
+line_of = option_map (λ d. record { instructions = d.0; storages = d.1 })
 
--- line k at a position, and where the line behind it begins
-abbrev pub CaseStep : List ℕ → ℕ → Step → Type 0
-CaseStep s at (Next i n next) =
+-- line k at a position: what it counts, and where the line behind it begins
+abbrev pub NextStep : List ℕ → ℕ → ℕ → ℕ → ℕ → Type 0
+NextStep s at i n next =
     (at < next) × (next ≤ length s) × (i ≤ count_limit) × (n ≤ count_limit)
-    × ((k : ℕ) → k ≤ line_limit → read_from k (split line_feed (drop at s)) ≡ joined k (some (record { instructions = i; storages = n })) (read_from (suc k) (split line_feed (drop next s))))
-CaseStep s at Bad = (k : ℕ) → k ≤ line_limit → read_from k (split line_feed (drop at s)) ≡ refused 42 k
+    × ((k : ℕ) → k ≤ line_limit → read_from k (split line_feed (drop at s)) ≡ joined k (Some (record { instructions = i; storages = n })) (read_from (suc k) (split line_feed (drop next s))))
 
-pub record StepAt (s : List ℕ) (at : ℕ) (r : Step) : Type 0 where
-  pub step : CaseStep s at r
+pub record StepAt (s : List ℕ) (at : ℕ) (r : Option (ℕ × ℕ × ℕ)) : Type 0 where
+  pub step : MatchOption r ((k : ℕ) → k ≤ line_limit → read_from k (split line_feed (drop at s)) ≡ refused 42 k) (λ t. NextStep s at t.0 t.1 t.2)
 
 -- either no line, or what the two lines are printed of
 unfoldable pub Held : Columns → Type 0
 Held c = (c.instructions.count ≡ 0) ⊎ ((Sound c.instructions) × (Sound c.storages))
 
 -- the lines read, behind those that the columns hold
-unfoldable pub onto : Columns → Read → Counted
-onto c (refused n l) = Refused n l
-onto c (lines ds) = Lines (with_lines c ds)
+unfoldable pub onto : Columns → Read → Result Columns (ℕ × ℕ)
+onto c (refused n l) = Err (n, l)
+onto c (lines ds) = Ok (with_lines c ds)
 
 -- the answer to lines whose columns these are
 unfoldable pub of_columns : ℕ → Columns → spec-answer.Answer

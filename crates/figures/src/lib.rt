@@ -4,26 +4,43 @@
 // length, and into the buffer once that is known to be long enough. So a refusal writes nothing.
 #![tactic(auto)]
 
-ghost use Rattle.std.specs.Prelude.{◌≡◌, ◌∷◌, ◌≤◌, ◌<◌, min, max, length};
+ghost use Rattle.std.specs.Prelude.{◌≡◌, ◌∷◌, ◌≤◌, ◌<◌, length};
 ghost use Rattle.spec.specs.Text.{digits, split, comma, line_feed};
 ghost use Rattle.spec.specs.Answer.{fitted};
 ghost use Rattle.text.specs.Put.{Put};
+ghost use Rattle.text.specs.Writes.{Writes};
 ghost use Rattle.figures.specs.Fraction.{gcd as gcd_of, lowest};
 ghost use Rattle.figures.specs.Annex.{fraction};
-ghost use Rattle.figures.specs.Lines.{count_limit, line_limit, bounded, done_of, read_from, answer};
-ghost use Rattle.figures.specs.Totals.{with_number, with_line, no_lines, Small, Sound, Held, range_of, moments_of, figures_of, printed, line_of, StepAt, onto, of_columns};
-ghost use Rattle.figures.specs.Shown.{Answers};
+ghost use Rattle.figures.specs.Lines.{count_limit, line_limit, done_of, read_from, answer};
+ghost use Rattle.figures.specs.Totals.{with_number, with_line, no_lines, Small, Sound, Held, figures_of, printed, line_of, StepAt, onto, of_columns};
+ghost use Rattle.figures.specs.Shown.{refusal_number, told, Answers};
 
-use fields::{Cursor, Decimal, Keyword};
+use answers::{Numbered, Refused};
+use text::writer::Writer;
 
-#[derive(Drop)]
-pub enum Answer {
-    Refused(u64, u64),
-    Accepted(usize),
+/// Why there is no annex.
+#[derive(Clone, Copy, Debug, PartialEq, Eq)]
+pub enum Refusal {
+    NoLines,
+    ManyLines,
+    BadLine,
+    LongAnnex,
 }
 
-// What is kept of a column of numbers.
-#[derive(Clone, Copy)]
+impl Numbered for Refusal {
+    ghost number_of = { refusal_number };
+
+    fn number(&self) -> u64 {
+        match self {
+            Refusal::NoLines | Refusal::ManyLines => 41,
+            Refusal::BadLine => 42,
+            Refusal::LongAnnex => 28,
+        }
+    }
+}
+
+/// What is kept of a column of numbers.
+#[derive(Clone, Copy, Debug, PartialEq, Eq)]
 pub struct Totals {
     pub count: u64,
     pub least: u64,
@@ -32,156 +49,102 @@ pub struct Totals {
     pub squares: u64,
 }
 
-#[derive(Clone, Copy)]
+/// Of instructions, and of new storages.
+#[derive(Clone, Copy, Debug, PartialEq, Eq)]
 pub struct Columns {
     pub instructions: Totals,
     pub storages: Totals,
 }
 
-// The instructions and new storages that a line counts.
-#[derive(Drop)]
-pub enum Line {
-    Done(u64, u64),
-    Malformed,
-}
+const NOTHING: Totals = Totals {
+    count: 0,
+    least: 65535,
+    greatest: 0,
+    sum: 0,
+    squares: 0,
+};
 
-// The same, and where the line behind it begins.
-#[derive(Drop)]
-pub enum Step {
-    Next(u64, u64, usize),
-    Bad,
-}
-
-#[derive(Drop)]
-pub enum Counted {
-    Refused(u64, u64),
-    Lines(Columns),
-}
-
-fn within(instructions: u64, storages: u64) -> Line
-    ensures { line_of result ≡ bounded instructions storages }
-{
-    if 65535 < instructions {
-        return Line::Malformed;
+impl Totals {
+    fn add(&mut self, x: u64)
+        requires { (Small self.old.count self.old) × (self.old.count < line_limit) × (x ≤ count_limit) }
+        ensures { self.new ≡ with_number self.old x }
+    {
+        self.count += 1;
+        self.least = x.min(self.least);
+        self.greatest = x.max(self.greatest);
+        self.sum += x;
+        self.squares += x * x;
     }
-    if 65535 < storages {
-        return Line::Malformed;
-    }
-    Line::Done(instructions, storages)
 }
 
-// A line without its line feed.
-fn done_line(line: &[u8]) -> Line
+impl Columns {
+    fn add(&mut self, instructions: u64, storages: u64)
+        requires { (Small self.old.instructions.count self.old.instructions) × (Small self.old.storages.count self.old.storages) × (self.old.instructions.count < line_limit) × (self.old.storages.count < line_limit) × (instructions ≤ count_limit) × (storages ≤ count_limit) }
+        ensures { self.new ≡ with_line self.old instructions storages }
+    {
+        self.instructions.add(instructions);
+        self.storages.add(storages);
+    }
+}
+
+// The instructions and new storages that a line without its line feed counts.
+fn done_line(line: &[u8]) -> Option<(u64, u64)>
     ensures { line_of result ≡ done_of (split comma line.now) }
 {
-    let Keyword::Word(_, c1) = fields::word(line, Cursor { at: 0 }, b"done") else {
-        return Line::Malformed;
-    };
-    let Decimal::Value(instructions, c2) = fields::number(line, c1) else {
-        return Line::Malformed;
-    };
-    let Decimal::Value(storages, c3) = fields::number(line, c2) else {
-        return Line::Malformed;
-    };
-    let Decimal::Value(_, c4) = fields::number(line, c3) else {
-        return Line::Malformed;
-    };
-    if c4.at <= line.len() {
-        return Line::Malformed;
+    let (_, first) = fields::word(line, 0, b"done")?;
+    let (instructions, second) = fields::number(line, first)?;
+    let (storages, third) = fields::number(line, second)?;
+    let (_, end) = fields::number(line, third)?;
+    if end <= line.len() {
+        return None;
     }
-    within(instructions, storages)
+    if instructions > 65535 || storages > 65535 {
+        return None;
+    }
+    Some((instructions, storages))
 }
 
-fn next_line(text: &[u8], at: usize) -> Step
+// The same of the line at a position, and where the line behind it begins.
+fn next_line(text: &[u8], at: usize) -> Option<(u64, u64, usize)>
     requires { at < length text.now }
     ensures { StepAt text.now at result }
 {
     let end = fields::find(text, at, b'\n');
     if text.len() <= end {
-        return Step::Bad;
+        return None;
     }
-    match done_line(&text[at..end]) {
-        Line::Done(instructions, storages) => Step::Next(instructions, storages, end + 1),
-        Line::Malformed => Step::Bad,
-    }
-}
-
-fn lesser(a: u64, b: u64) -> u64
-    ensures { result ≡ min a b }
-{
-    if a < b { a } else { b }
-}
-
-fn larger(a: u64, b: u64) -> u64
-    ensures { result ≡ max a b }
-{
-    if a < b { b } else { a }
-}
-
-fn add_number(t: Totals, x: u64) -> Totals
-    requires { (Small t.count t) × (t.count < line_limit) × (x ≤ count_limit) }
-    ensures { result ≡ with_number t x }
-{
-    Totals {
-        count: t.count + 1,
-        least: lesser(x, t.least),
-        greatest: larger(x, t.greatest),
-        sum: t.sum + x,
-        squares: t.squares + x * x,
-    }
-}
-
-fn add_line(c: Columns, instructions: u64, storages: u64) -> Columns
-    requires { (Small c.instructions.count c.instructions) × (Small c.storages.count c.storages) × (c.instructions.count < line_limit) × (c.storages.count < line_limit) × (instructions ≤ count_limit) × (storages ≤ count_limit) }
-    ensures { result ≡ with_line c instructions storages }
-{
-    let i = add_number(c.instructions, instructions);
-    let s = add_number(c.storages, storages);
-    Columns {
-        instructions: i,
-        storages: s,
-    }
-}
-
-fn start() -> Columns
-    ensures { result ≡ no_lines }
-{
-    let t = Totals {
-        count: 0,
-        least: 65535,
-        greatest: 0,
-        sum: 0,
-        squares: 0,
-    };
-    Columns {
-        instructions: t,
-        storages: t,
-    }
+    let (instructions, storages) = done_line(&text[at..end])?;
+    Some((instructions, storages, end + 1))
 }
 
 // The lines of a text; line 1,001 is refused before it is read.
-fn count_lines(text: &[u8]) -> Counted
-    ensures { result ≡ onto no_lines (read_from 1 (split line_feed text.now)) }
+fn count_lines(text: &[u8]) -> Result<Columns, Refused<Refusal>>
+    ensures { told result ≡ onto no_lines (read_from 1 (split line_feed text.now)) }
 {
-    let mut c = start();
-    let mut number: u64 = 1;
+    let mut columns = Columns {
+        instructions: NOTHING,
+        storages: NOTHING,
+    };
+    let mut line: u64 = 1;
     let mut at: usize = 0;
     while at < text.len() {
-        if 1000 < number {
-            return Counted::Refused(41, number);
+        if line > 1000 {
+            return Err(Refused {
+                refusal: Refusal::ManyLines,
+                line,
+            });
         }
-        match next_line(text, at) {
-            Step::Next(instructions, storages, next) => {
-                c = add_line(c, instructions, storages);
-                number += 1;
-                at = next;
-            }
-            Step::Bad => {
-                return Counted::Refused(42, number);
-            }
-        }
+        let Some((instructions, storages, next)) = next_line(text, at) else {
+            return Err(Refused {
+                refusal: Refusal::BadLine,
+                line,
+            });
+        };
+        columns.add(instructions, storages);
+        line += 1;
+        at = next;
     }
-    Counted::Lines(c)
+    Ok(columns)
 }
 
 fn gcd(a: u64, b: u64) -> u64
@@ -190,98 +153,95 @@ fn gcd(a: u64, b: u64) -> u64
     let mut x = a;
     let mut y = b;
     while y != 0 {
-        let rest = x % y;
-        x = y;
-        y = rest;
+        (x, y) = (y, x % y);
     }
     x
 }
 
 // A comma and a number.
-fn print_field(buf: &mut [u8], at: usize, n: u64) -> usize
-    ensures { Put buf.old at (comma ∷ digits n) buf.new result }
+fn print_field(out: &mut Writer<'_>, n: u64)
+    ensures { Writes out.old (comma ∷ digits n) out.new }
 {
-    let p = text::put(buf, at, b',');
-    text::print_number(buf, p, n)
+    out.put(b',');
+    out.number(n);
 }
 
 // The fraction a / b as a field.
-fn print_fraction(buf: &mut [u8], at: usize, a: u64, b: u64) -> usize
+fn print_fraction(out: &mut Writer<'_>, a: u64, b: u64)
     requires { 0 < b }
-    ensures { Put buf.old at (comma ∷ fraction (lowest a b)) buf.new result }
+    ensures { Writes out.old (comma ∷ fraction (lowest a b)) out.new }
 {
     let g = gcd(a, b);
-    let p = print_field(buf, at, a / g);
-    let q = text::put(buf, p, b'/');
-    text::print_number(buf, q, b / g)
+    print_field(out, a / g);
+    out.put(b'/');
+    out.number(b / g);
 }
 
-// Count, least and greatest.
-fn print_range(buf: &mut [u8], at: usize, t: Totals) -> usize
-    ensures { Put buf.old at (range_of t) buf.new result }
-{
-    let p = text::print_number(buf, at, t.count);
-    let q = print_field(buf, p, t.least);
-    print_field(buf, q, t.greatest)
-}
-
-// Mean and variance, and the line's end.
-fn print_moments(buf: &mut [u8], at: usize, t: Totals) -> usize
+// Count, least, greatest, mean and variance, and the line's end.
+fn print_totals(out: &mut Writer<'_>, t: Totals)
     requires { Sound t }
-    ensures { Put buf.old at (moments_of t) buf.new result }
+    ensures { Writes out.old (figures_of t) out.new }
 {
     let n = t.count;
-    let p = print_fraction(buf, at, t.sum, n);
-    let q = print_fraction(buf, p, n * t.squares - t.sum * t.sum, n * n);
-    text::put(buf, q, b'\n')
+    out.number(n);
+    print_field(out, t.least);
+    print_field(out, t.greatest);
+    print_fraction(out, t.sum, n);
+    print_fraction(out, n * t.squares - t.sum * t.sum, n * n);
+    out.put(b'\n');
 }
 
-fn print_totals(buf: &mut [u8], at: usize, t: Totals) -> usize
-    requires { Sound t }
-    ensures { Put buf.old at (figures_of t) buf.new result }
-{
-    let p = print_range(buf, at, t);
-    print_moments(buf, p, t)
-}
-
-fn print_columns(buf: &mut [u8], at: usize, c: Columns) -> usize
+fn print_columns(out: &mut Writer<'_>, c: Columns)
     requires { (Sound c.instructions) × (Sound c.storages) }
-    ensures { Put buf.old at (printed c) buf.new result }
+    ensures { Writes out.old (printed c) out.new }
 {
-    let p = print_totals(buf, at, c.instructions);
-    print_totals(buf, p, c.storages)
+    print_totals(out, c.instructions);
+    print_totals(out, c.storages);
+}
+
+// Both lines from the buffer's start, and the position behind them.
+fn write_columns(buffer: &mut [u8], c: Columns) -> usize
+    requires { (Sound c.instructions) × (Sound c.storages) }
+    ensures { Put buffer.old 0 (printed c) buffer.new result }
+{
+    let mut out = Writer::new(buffer);
+    print_columns(&mut out, c);
+    out.at
 }
 
 // The length first, then the bytes.
-fn place(c: Columns, buffer: &mut [u8]) -> Answer
+fn place(c: Columns, buffer: &mut [u8]) -> Result<usize, Refused<Refusal>>
     requires { (Sound c.instructions) × (Sound c.storages) }
     ensures { Answers (fitted (length buffer.old) (printed c)) buffer.old buffer.new result }
 {
-    let mut none = [0u8; 1];
-    let end = print_columns(&mut none, 0, c);
+    let end = write_columns(&mut [0; 1], c);
     if buffer.len() < end {
-        return Answer::Refused(28, 0);
+        return Err(Refused {
+            refusal: Refusal::LongAnnex,
+            line: 0,
+        });
     }
-    print_columns(buffer, 0, c);
-    Answer::Accepted(end)
+    write_columns(buffer, c);
+    Ok(end)
 }
 
-fn figures_of(c: Columns, buffer: &mut [u8]) -> Answer
+fn figures_of(c: Columns, buffer: &mut [u8]) -> Result<usize, Refused<Refusal>>
     requires { Held c }
     ensures { Answers (of_columns (length buffer.old) c) buffer.old buffer.new result }
 {
     if c.instructions.count == 0 {
-        return Answer::Refused(41, 0);
+        return Err(Refused {
+            refusal: Refusal::NoLines,
+            line: 0,
+        });
     }
     place(c, buffer)
 }
 
-// The two lines of the annex in the buffer, or a refusal that writes nothing.
-pub fn figures(lines: &[u8], buffer: &mut [u8]) -> Answer
+/// The two lines of the annex in the buffer, or a refusal that writes nothing.
+pub fn figures(lines: &[u8], buffer: &mut [u8]) -> Result<usize, Refused<Refusal>>
     ensures { Answers (answer lines.now (length buffer.old)) buffer.old buffer.new result }
 {
-    match count_lines(lines) {
-        Counted::Refused(n, l) => Answer::Refused(n, l),
-        Counted::Lines(c) => figures_of(c, buffer),
-    }
+    let columns = count_lines(lines)?;
+    figures_of(columns, buffer)
 }

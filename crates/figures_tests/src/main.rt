@@ -7,8 +7,7 @@ ghost use Rattle.std.specs.Prelude.{length};
 ghost use Rattle.figures.specs.Lines.{answer};
 ghost use Rattle.cases.specs.Cases.{Right};
 
-use cases::Tally;
-use figures::Answer;
+use answers::Numbered;
 use std::io::{self, Read};
 
 fn holds(lines: &[u8], expected: &[u8], buffer: &mut [u8]) -> bool
@@ -16,8 +15,8 @@ fn holds(lines: &[u8], expected: &[u8], buffer: &mut [u8]) -> bool
 {
     cases::fill(buffer);
     match figures::figures(lines, buffer) {
-        Answer::Refused(number, line) => cases::refused(number, line, expected, buffer),
-        Answer::Accepted(n) => cases::accepted(n, expected, buffer),
+        Ok(n) => cases::accepted(n, expected, buffer),
+        Err(e) => cases::refused(e.refusal.number(), e.line, expected, buffer),
     }
 }
 
@@ -29,41 +28,32 @@ fn holds_within(lines: &[u8], expected: &[u8], buffer: &mut [u8], room: usize) -
         return false;
     }
     cases::fill(buffer);
-    let part = &mut buffer[..room];
-    holds(lines, expected, part) && cases::untouched(buffer, room)
+    holds(lines, expected, &mut buffer[..room]) && cases::untouched(buffer, room)
 }
 
-// The next text, behind its head.
-fn replay<R: Read>(reader: &mut R, numbers: &[u64; 64]) -> bool {
-    let mut lines = [0u8; 32768];
-    let mut expected = [0u8; 256];
-    let mut buffer = [0u8; 256];
-    let size = numbers[0] as usize;
-    let answer = numbers[2] as usize;
-    if !cases::read(reader, &mut lines, size) {
-        return false;
+// Whether the next text is answered so.
+fn replay<R: Read>(reader: &mut R) -> Option<bool> {
+    let Ok(head) = cases::line_head::<3, R>(reader)? else {
+        return Some(false);
+    };
+    let [size, room, length] = head;
+    let mut lines = [0; 32768];
+    let mut expected = [0; 256];
+    let mut buffer = [0; 256];
+    let size = size as usize;
+    let length = length as usize;
+    if !cases::read(reader, &mut lines, size) || !cases::read(reader, &mut expected, length) {
+        return Some(false);
     }
-    if !cases::read(reader, &mut expected, answer) {
-        return false;
-    }
-    holds_within(
+    Some(holds_within(
         cases::first(&lines, size),
-        cases::first(&expected, answer),
+        cases::first(&expected, length),
         &mut buffer,
-        numbers[1] as usize,
-    )
+        room as usize,
+    ))
 }
 
 fn main(rt: HostRuntime) -> io::Result<()> {
-    let mut reader = rt.stdin();
-    let mut numbers = [0u64; 64];
-    let mut t = Tally { ran: 0, failed: 0 };
-    while t.ran < 1000000 {
-        let h = cases::line_head(&mut reader, 3, &mut numbers);
-        if h.over {
-            break;
-        }
-        t = cases::counted(t, h.right && replay(&mut reader, &numbers));
-    }
-    cases::print(&rt, t, b"texts")
+    let tally = cases::run(&mut rt.stdin(), replay);
+    tally.print(&rt, "texts")
 }

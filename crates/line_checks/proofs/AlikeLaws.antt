@@ -8,7 +8,8 @@ use borrow.Author.Tests.{eqb-false}
 use Rattle.tables.specs.Tables.{pick, row_of, places_from, cell}
 use Rattle.tables.specs.declared.Counts.{Counts}
 use Rattle.spec.specs.Forms.{Arg, Field, between, float_width, type_part, type, storage, place, node}
-use Rattle.line_checks.specs.Rows.{word_at, Row, row_at, nodes_from}
+use Rattle.line_checks.specs.Rows.{word_at, row_at, nodes_from}
+use Rattle.line_checks.specs.declared.rows.Row.{Row}
 use Rattle.line_checks.specs.Steps.{deepest_in, depth_in, Alike}
 
 module _ (u t : List ℕ) (a : Alike u t) where

@@ -1,99 +1,111 @@
 -- The tests of a line, from number to number.
 use mathlib.Core.Path.{◌≡◌, refl, sym, ap, ◌∙◌}
-use mathlib.Core.Bool.{Bool, true, false, not, ◌&&◌}
-use mathlib.Core.List.{List, ◌∷◌, []}
-use mathlib.Core.Option.{Option, none, some}
-use Prim.Native.Nat.{ℕ, zero, suc, ◌+◌, ◌-◌, ◌≤◌, ◌<◌, max}
+use mathlib.Core.Bool.{Bool, true, false, ◌&&◌}
+use mathlib.Core.List.{List, ◌∷◌, ◌++◌, []}
+use Prim.Native.Nat.{ℕ, zero, suc, ◌+◌, ◌-◌, ◌<◌, min}
 use native.Mathlib.Omega.{arith}
-use native.Mathlib.Nat.{add-zero}
-use lib.Dec.{eqb, leb}
-use lib.ListN.{get_or}
-use borrow.Author.Tests.{le-leb, lt-leb, eq-eqb, ne_eqb}
-use Rattle.tables.specs.Tables.{tab, pick, row_of, run, places_from}
-use Rattle.fields.proofs.Tabs.{tab_here, tab_done}
+use native.Mathlib.Nat.{zero-add, add-zero}
+use lib.ListN.{length, get_or, take, drop, length-take, length-drop}
+use Rattle.std.proofs.lemmas.List.{get_or-take, get_or-drop}
+use lib.Seq.{take-length}
+use Rattle.tables.specs.Tables.{tab, row_of, run, places_from}
+use Rattle.tables.proofs.Laws.{length_run, get_d_tab_in}
+use Rattle.fields.proofs.Tabs.{tab_here, tab_more, tab_same}
 use Rattle.spec.specs.Forms.{Field, place, node, Arg, values}
-use Rattle.spec.specs.Read.{all, in_order, length_fits, used_of, mark_of, Test, test, first_failed}
-use Rattle.line_forms.specs.Classes.{arg_at, form_arg, args_of}
+use Rattle.spec.specs.Read.{all}
+use Rattle.line_forms.specs.Classes.{class_at, arg_at, form_arg, args_of}
+use Rattle.line_forms.proofs.FormLaws.{class_later}
 use Rattle.line_checks.specs.Rows.{section, marked, used_in, nodes_from, MarkAt, Few}
-use Rattle.line_checks.specs.Steps.{depth_in, deepest_in, Alike, Marking}
+use Rattle.line_checks.specs.Steps.{arg_in, args_in, Alike, Marking}
+use Rattle.line_forms.specs.declared.LineKind.{LineKind}
 use Rattle.line_forms.specs.declared.Form.{Form}
 use Rattle.tables.specs.declared.Counts.{Counts}
 use Rattle.line_checks.proofs.RowLaws.{section_same}
+use Rattle.line_checks.proofs.MeasureLaws.{run_taken}
 
--- ---------------------------------------------------------------- small tests
+-- ---------------------------------------------------------------- classes
 
-module _ (s r : ℕ) (h : s ≡ 0 → ⊥) where
-  pub ordered_low : r < 1 → false ≡ in_order s r
-  ordered_low g = by s h
-    where
-      by : (s : ℕ) → (s ≡ 0 → ⊥) → false ≡ in_order s r
-      by zero h = absurd (h refl)
-      by (suc l) h = rw (lt-leb 1 r g)
+-- the first four numbers, or all where there are fewer
+pub first_arg : (k : LineKind) (w : ℕ) (xs part : List ℕ) (n i : ℕ) (c : Field) → part ≡ take n xs → i < length part → c ≡ class_at k w i → arg_in k w xs i ≡ record { class = c; value = get_or part i 0 }
+unfolding arg_at
+first_arg k w xs part n i c q h e =
+    let l : i < n = omega (arith, rw q at h, length-take n xs) in
+    rw (e, q, get_or-take n xs i 0 l)
 
-  pub ordered_high : 1 ≤ r → leb (s - 1) r ≡ in_order s r
-  ordered_high g = by s h
-    where
-      by : (s : ℕ) → (s ≡ 0 → ⊥) → leb (s - 1) r ≡ in_order s r
-      by zero h = absurd (h refl)
-      by (suc l) h = let e : suc l - 1 ≡ l = omega arith in rw (le-leb 1 r g, e)
+pub first_in : (xs part : List ℕ) (n i : ℕ) → part ≡ take n xs → i < length part → i < length xs
+first_in xs part n i q h = omega (arith, rw q at h, length-take n xs)
 
-chosen : {A : Type 0} (t u : Bool) (a b : A) → t ≡ u → pick u a b ≡ elim t as (λ x. A) [ true ↦ a | false ↦ b ]
-chosen t true a b e = rw e
-chosen t false a b e = rw e
+-- those behind them are of one class
+pub rest_arg : (k : LineKind) (w : ℕ) (xs part : List ℕ) (n i : ℕ) (c : Field) → part ≡ drop n xs → n ≡ min (length xs) 4 → i < length part → c ≡ class_at k w 4
+    → arg_in k w xs (4 + i) ≡ record { class = c; value = get_or part i 0 }
+unfolding arg_at
+rest_arg k w xs part n i c q m h e =
+    let four : n ≡ 4 = omega (arith, m, rw (q, length-drop n xs) at h) in
+    rw (q, four, class_later k w (4 + i) (omega arith), ← e, get_or-drop 4 xs i 0)
 
-pub length_two : (k l : ℕ) → k ≡ 2 → leb 1 l ≡ length_fits k l
-length_two k l e = chosen (eqb k 2) true (leb 1 l) (eqb l 0) (eq-eqb k 2 e)
+pub rest_in : (xs part : List ℕ) (n i : ℕ) → part ≡ drop n xs → n ≡ min (length xs) 4 → i < length part → 4 + i < length xs
+rest_in xs part n i q m h = omega (arith, m, rw q at h, length-drop n xs)
 
-pub length_other : (k l : ℕ) → (k ≡ 2 → ⊥) → eqb l 0 ≡ length_fits k l
-length_other k l e = chosen (eqb k 2) false (leb 1 l) (eqb l 0) (ne_eqb k 2 e)
+-- ---------------------------------------------------------------- numbers one by one
 
--- ---------------------------------------------------------------- a test of all numbers
+pub and_assoc : (a b c : Bool) → (a && (b && c)) ≡ ((a && b) && c)
+and_assoc true b c = refl
+and_assoc false b c = refl
 
-and_swap : (t a b : Bool) → ((t && a) && b) ≡ (a && (t && b))
-and_swap true a b = refl
-and_swap false true b = refl
-and_swap false false b = refl
+all_both : (p : Arg → Bool) (xs ys : List Arg) → all p (xs ++ ys) ≡ (all p xs && all p ys)
+all_both p [] ys = refl
+all_both p (x ∷ xs) ys = rw (all_both p xs ys) (and_assoc (p x) (all p xs) (all p ys))
 
-and_true : (a : Bool) → a ≡ (a && true)
-and_true true = refl
-and_true false = refl
-
-module _ (p : Arg → Bool) (f : ℕ → Arg) (o b : Bool) (i n : ℕ) (q : o ≡ (all p (tab f i (n - i)) && b)) where
-  pub all_end : n ≤ i → b ≡ o
-  all_end h = sym (q ∙ rw (tab_done f i n h))
-
-  pub all_next : (t : Bool) → i < n → t ≡ (p (f i) && b) → o ≡ (all p (tab f (i + 1) (n - (i + 1))) && t)
-  all_next t h e = q ∙ rw (tab_here f i n h, e) (and_swap (p (f i)) (all p (tab f (i + 1) (n - (i + 1)))) b)
-
-pub args_start : (f : Form) (ls : List ℕ) (used : ℕ) → args_of f ls used ≡ tab (form_arg f ls used) 0 (f.count - 0)
-unfolding args_of
-args_start f ls used = let e : f.count - 0 ≡ f.count = omega arith in rw e
-
-pub all_start : (p : Arg → Bool) (f : Form) (ls : List ℕ) (used : ℕ) → all p (args_of f ls used) ≡ (all p (tab (form_arg f ls used) 0 (f.count - 0)) && true)
-all_start p f ls used = rw (← args_start f ls used) (and_true (all p (args_of f ls used)))
-
-module _ (f : Form) (ls : List ℕ) (used : ℕ) where
-  values_tab : (j n : ℕ) → values (tab (form_arg f ls used) j n) ≡ tab (λ i. get_or ls (used + i) 0) j n
-  unfolding tab arg_at
-  values_tab j zero = refl
-  values_tab j (suc n) = rw (values_tab (suc j) n)
-
-  shifted : (j n : ℕ) → tab (λ i. get_or ls (used + i) 0) j n ≡ tab (λ i. get_or ls i 0) (used + j) n
+module _ (f : ℕ → Arg) where
+  tab_both : (j i n : ℕ) → tab f j (i + n) ≡ tab f j i ++ tab f (j + i) n
   unfolding tab
-  shifted j zero = refl
-  shifted j (suc n) = let e : used + suc j ≡ suc (used + j) = omega arith in rw (shifted (suc j) n, e)
+  tab_both j zero n = rw (zero-add, add-zero)
+  tab_both j (suc i) n = let e : suc i + n ≡ suc (i + n) = omega arith in let g : suc j + i ≡ j + suc i = omega arith in rw (e, tab, tab_both (suc j) i n, g)
 
-  -- a line's numbers, without their classes
-  pub values_of : values (args_of f ls used) ≡ run ls used f.count
-  unfolding args_of run
-  values_of = values_tab 0 f.count ∙ shifted 0 f.count ∙ rw add-zero
+  -- number i, and those behind it
+  pub tab_from : (i n : ℕ) → i < n → tab f 0 n ≡ tab f 0 i ++ (f i ∷ tab f (i + 1) (n - (i + 1)))
+  tab_from i n h =
+      let e : i + (n - i) ≡ n = omega arith in
+      let s : tab f 0 n ≡ tab f 0 i ++ tab f i (n - i) = rw (e, zero-add) at (tab_both 0 i (n - i)) in
+      s ∙ rw (tab_here f i n h)
 
--- ---------------------------------------------------------------- depth
+-- no number yet
+pub all_none : (p : Arg → Bool) (f : ℕ → Arg) → true ≡ all p (tab f 0 0)
+unfolding tab
+all_none p f = refl
 
-module _ (ws : List ℕ) (c : Counts) (f : ℕ → Arg) (o m i n : ℕ) (q : o ≡ max m (deepest_in ws c (tab f i (n - i)))) where
-  pub deep_next : (d : ℕ) → i < n → d ≡ max m (depth_in ws c (f i).class (f i).value) → o ≡ max d (deepest_in ws c (tab f (i + 1) (n - (i + 1))))
-  unfolding deepest_in
-  deep_next d h e = q ∙ rw (tab_here f i n h, e) (omega arith)
+-- a test of one number more
+pub all_more : (p : Arg → Bool) (f : ℕ → Arg) (n m : ℕ) (a : Arg) (b t : Bool) → m ≡ n + 1 → b ≡ all p (tab f 0 n) → f n ≡ a → t ≡ p a → (b && t) ≡ all p (tab f 0 m)
+all_more p f n m a b t z e q g =
+    rw (e, g, ← q, z, tab_more f 0 n, all_both p (tab f 0 n) (f (0 + n) ∷ []), zero-add) (by (all p (tab f 0 n)) (p (f n)))
+  where
+    by : (a b : Bool) → (a && b) ≡ (a && (b && true))
+    by true true = refl
+    by true false = refl
+    by false b = refl
+
+-- ---------------------------------------------------------------- a line's numbers as they are lent
+
+-- those of a form, behind the first `used` of the lists
+pub args_run : (f : Form) (ls : List ℕ) (used : ℕ) → args_of f ls used ≡ args_in f.kind f.word (run ls used f.count)
+unfolding args_of args_in arg_at run
+args_run f ls used =
+    rw (length_run ls used f.count)
+    (tab_same (form_arg f ls used) (arg_in f.kind f.word (run ls used f.count)) 0 f.count (λ i l h. rw (get_d_tab_in (λ j. get_or ls j 0) 0 used f.count i (omega arith))))
+
+numbers_all : (xs : List ℕ) → tab (λ i. get_or xs i 0) 0 (length xs) ≡ xs
+unfolding run
+numbers_all xs = sym (run_taken xs 0 (length xs) (omega arith)) ∙ take-length xs
+
+-- and without their classes
+values_tab : (k : LineKind) (w : ℕ) (xs : List ℕ) (j n : ℕ) → values (tab (arg_in k w xs) j n) ≡ tab (λ i. get_or xs i 0) j n
+unfolding tab arg_at
+values_tab k w xs j zero = refl
+values_tab k w xs j (suc n) = rw (values_tab k w xs (suc j) n)
+
+pub values_in : (k : LineKind) (w : ℕ) (xs : List ℕ) → values (args_in k w xs) ≡ xs
+unfolding args_in
+values_in k w xs = values_tab k w xs 0 (length xs) ∙ numbers_all xs
 
 -- ---------------------------------------------------------------- marks
 
@@ -126,33 +138,3 @@ module _ (u t : List ℕ) (c : Counts) (few : Few c) (x : ℕ) (r : Bool) where
         marks = rw (m.marks, apart u t nodes_from c.nodes x places_from c.places r m (λ i l g e. omega arith));
         alike = record { cells = m.cells; rows = λ base k h. m.others (row_of base k) (λ g e. omega arith) };
       }
-
--- a number that refers to no place and no node
-pub no_mark : (u : List ℕ) (c : Counts) (f : Field) (x : ℕ) → used_of (used_in u c) f x ≡ false → mark_of (used_in u c) f x ≡ used_in u c → Marking u u c f x true
-no_mark u c f x e g = record { answer = sym e; marks = sym g; alike = alike_same u }
-
--- ---------------------------------------------------------------- the first test that fails
-
-pub and_not : (a b c : Bool) → b ≡ a → not b ≡ true → false ≡ (a && c)
-and_not a true c e h = cc
-and_not a false c e h = rw (← e)
-
-pub and_then : (a b c r : Bool) → b ≡ a → not b ≡ false → r ≡ c → r ≡ (a && c)
-and_then a true c r e h g = rw (← e) g
-and_then a false c r e h g = cc
-
-pub failed_here : (n : ℕ) (b t : Bool) (ts : List Test) → b ≡ t → not b ≡ true → some n ≡ first_failed (test n t ∷ ts)
-unfolding first_failed
-failed_here n true t ts e h = cc
-failed_here n false t ts e h = rw (first_failed, ← e)
-
-pub failed_next : (x : Option ℕ) (n : ℕ) (b t : Bool) (ts : List Test) → b ≡ t → not b ≡ false → x ≡ first_failed ts → x ≡ first_failed (test n t ∷ ts)
-unfolding first_failed
-failed_next x n true t ts e h g = g ∙ rw (first_failed, ← e)
-failed_next x n false t ts e h g = cc
-
-pub failed_none : none ≡ first_failed []
-unfolding first_failed
-failed_none = refl
-
-pub ruleset tested = (failed_here, failed_next, failed_none)

@@ -3,41 +3,53 @@ use mathlib.Core.Path.{◌≡◌, refl, sym, ap, ◌∙◌}
 use mathlib.Core.Bool.{Bool, true, false}
 use mathlib.Core.List.{List, ◌∷◌, []}
 use mathlib.Core.Logic.{⊎_elim}
-use Prim.Native.Nat.{ℕ, zero, suc, ◌+◌, ◌-◌, ◌*◌, ◌/◌, ◌%◌, ◌≤◌, ◌<◌}
+use Prim.Native.Nat.{ℕ, zero, suc, ◌+◌, ◌*◌, ◌/◌, ◌%◌, ◌≤◌, ◌<◌, min}
 use native.Mathlib.Omega.{arith}
-use native.Mathlib.Nat.{add-zero, mod-lt, eq-or-lt_of_le, le_of_suc-le-suc}
+use native.Mathlib.Nat.{mod-lt, eq-or-lt_of_le, le_of_suc-le-suc}
+use native.Mathlib.Numerals.{add-one}
 use lib.Dec.{eqb, leb, lit<}
-use lib.ListN.{length, get_or, set, length-set}
-use lib.Seq.{get_or-set_same, get_or-set_other}
-use borrow.Author.Tests.{leb-false, le-leb, lt-leb, eqb-true, eqb-false, eq-eqb, ne_eqb}
+use lib.ListN.{length, get_or, set, drop, length-set, drop_of_length-le}
+use lib.Seq.{drop-cons, get_or-set_same, get_or-set_other}
+use borrow.Author.Tests.{leb-true, leb-false, eqb-true, eqb-false, eq-eqb, ne_eqb}
 use Rattle.spec.specs.Limits.{type_lines}
 use Rattle.spec.specs.Text.{same}
+use Rattle.spec.specs.Ticket.{TypeWord, t_unit, t_bool, t_bits, t_float, t_pointer, t_array, t_struct, t_tuple, t_opaque}
 use Rattle.spec.specs.Read.{alike, type_number}
 use Rattle.fields.proofs.Lines.{both_true}
-use Rattle.tables.specs.Tables.{tab, pick, row_of, run, type_word_by}
-use Rattle.line_checks.specs.Rows.{word_at, Row, row_at, section, type_row, numbers, RowPut}
+use Rattle.tables.specs.Tables.{tab, pick, row_of, type_word_by}
+use Rattle.line_checks.specs.Rows.{word_at, row_at, section, type_row, numbers, RowPut}
+use Rattle.line_checks.specs.declared.rows.Row.{Row}
 use Rattle.line_checks.specs.Keys.{key_from, key_lines, key_of, key_row, key_place, slot_of, stands, with_key, has_key, noted, row_key, Keyed}
 use Rattle.line_checks.specs.Steps.{Alike, alike_to}
 use Rattle.line_checks.proofs.RowLaws.{Stored, stored}
-use Rattle.line_checks.proofs.MeasureLaws.{run_here, run_done}
 
 -- ---------------------------------------------------------------- a key, number by number
 
 -- no number taken yet
-pub key_start : (ls : List ℕ) (w a n : ℕ) → key_of w (run ls a n) ≡ key_from (w % 4294967296) (run ls (a + 0) (n - 0))
+pub key_start : (w : TypeWord) (xs : List ℕ) → (type_number w < 4294967296) × (key_of (type_number w) xs ≡ key_from (type_number w) xs)
 unfolding key_of
-key_start ls w a n = let z : n - 0 ≡ n = omega arith in rw (z, add-zero)
+key_start t_unit xs = (lit< tt, refl)
+key_start t_bool xs = (lit< tt, refl)
+key_start t_bits xs = (lit< tt, refl)
+key_start t_float xs = (lit< tt, refl)
+key_start t_pointer xs = (lit< tt, refl)
+key_start t_array xs = (lit< tt, refl)
+key_start t_struct xs = (lit< tt, refl)
+key_start t_tuple xs = (lit< tt, refl)
+key_start t_opaque xs = (lit< tt, refl)
 
-module _ (o : ℕ) (ls : List ℕ) (h a i n : ℕ) (q : o ≡ key_from h (run ls (a + i) (n - i))) where
+module _ (o h : ℕ) (xs : List ℕ) (i : ℕ) (q : o ≡ key_from h (drop i xs)) where
   -- one number more
-  pub key_more : i < n → o ≡ key_from ((h * 31 + get_or ls (a + i) 0 % 4294967296) % 4294967296) (run ls (a + (i + 1)) (n - (i + 1)))
+  pub key_more : i < length xs → o ≡ key_from ((h * 31 + get_or xs i 0 % 4294967296) % 4294967296) (drop (i + 1) xs)
   unfolding key_from
-  key_more l = q ∙ rw (run_here ls a i n l)
+  key_more l = q ∙ rw (drop-cons xs i 0 l, add-one)
 
   -- all of them
-  pub key_end : n ≤ i → h ≡ o
+  pub key_end : length xs ≤ i → h ≡ o
   unfolding key_from
-  key_end l = sym (q ∙ rw (run_done ls a i n l))
+  key_end l = sym (q ∙ rw (drop_of_length-le xs l))
+
+pub ruleset keying = (key_start, key_more, key_end)
 
 -- ---------------------------------------------------------------- where a key's word stands
 
@@ -59,13 +71,13 @@ keys_some n l = by (leb (n / 40) type_lines)
     by false = lit< tt
 
 -- as the code works it out
-pub keys_all : (n : ℕ) → n / 40 ≤ type_lines → n / 40 ≡ key_lines n
+pub keys_least : (n : ℕ) → min type_lines (n / 40) ≡ key_lines n
 unfolding key_lines
-keys_all n l = rw (le-leb (n / 40) type_lines l)
-
-pub keys_most : (n : ℕ) → type_lines < n / 40 → type_lines ≡ key_lines n
-unfolding key_lines
-keys_most n l = rw (lt-leb (n / 40) type_lines l)
+keys_least n = by (leb (n / 40) type_lines) refl
+  where
+    by : (t : Bool) → leb (n / 40) type_lines ≡ t → min type_lines (n / 40) ≡ pick t (n / 40) type_lines
+    by true e = let g = leb-true (n / 40) type_lines e in omega arith
+    by false e = let g = leb-false (n / 40) type_lines e in omega arith
 
 module _ (n h : ℕ) where
   -- behind the rows of lines
@@ -137,6 +149,8 @@ module _ (u : List ℕ) (h k at : ℕ) (e : k ≡ h) (q : at ≡ slot_of (length
   pub note_more : (get_or u at 0 ≡ 0 → ⊥) → set u at 1 ≡ noted u h
   unfolding noted
   note_more z = rw (← e, ← q, ne_eqb (get_or u at 0) 0 z)
+
+pub ruleset noting = (note_first, note_more)
 
 -- ---------------------------------------------------------------- words that say the same of keys
 
@@ -254,31 +268,31 @@ same_keys h (x ∷ xs) (y ∷ ys) e =
     let g = both_true (eqb x y) (same xs ys) e in
     rw (eqb-true x y g.0) (same_keys ((h * 31 + y % 4294967296) % 4294967296) xs ys g.1)
 
-module _ (ws ls : List ℕ) (word n : ℕ) (xs : List ℕ) (i : Keyed ws ls n) (o : has_key ws (key_of (type_number (type_word_by word)) xs) ≡ false) where
+module _ (ws ls : List ℕ) (w : TypeWord) (n : ℕ) (xs : List ℕ) (i : Keyed ws ls n) (o : has_key ws (key_of (type_number w) xs) ≡ false) where
   -- a type has another key
-  unlike_row : (k : ℕ) → k < n → alike_to (type_number (type_word_by word)) xs (type_row ls (row_at ws (row_of 0 k))) ≡ false
+  unlike_row : (k : ℕ) → k < n → alike_to w xs (type_row ls (row_at ws (row_of 0 k))) ≡ false
   unfolding key_of
-  unlike_row k h = by (alike_to (type_number (type_word_by word)) xs (type_row ls (row_at ws (row_of 0 k)))) refl
+  unlike_row k h = by (alike_to w xs (type_row ls (row_at ws (row_of 0 k)))) refl
     where
-      by : (t : Bool) → alike_to (type_number (type_word_by word)) xs (type_row ls (row_at ws (row_of 0 k))) ≡ t → t ≡ false
+      by : (t : Bool) → alike_to w xs (type_row ls (row_at ws (row_of 0 k))) ≡ t → t ≡ false
       by true e =
-          let g = both_true (eqb (type_number (type_word_by word)) (type_number (type_word_by (row_at ws (row_of 0 k)).word))) (same xs (numbers ls (row_at ws (row_of 0 k)))) e in
-          let d : key_of (type_number (type_word_by word)) xs ≡ row_key ls (row_at ws (row_of 0 k)) = rw (eqb-true (type_number (type_word_by word)) (type_number (type_word_by (row_at ws (row_of 0 k)).word)) g.0) (same_keys _ xs (numbers ls (row_at ws (row_of 0 k))) g.1) in
+          let g = both_true (eqb (type_number w) (type_number (type_word_by (row_at ws (row_of 0 k)).word))) (same xs (numbers ls (row_at ws (row_of 0 k)))) e in
+          let d : key_of (type_number w) xs ≡ row_key ls (row_at ws (row_of 0 k)) = rw (eqb-true (type_number w) (type_number (type_word_by (row_at ws (row_of 0 k)).word)) g.0) (same_keys _ xs (numbers ls (row_at ws (row_of 0 k))) g.1) in
           sym (i.each k h) ∙ ap (has_key ws) (sym d) ∙ o
       by false e = refl
 
   -- and so have those from the j-th on
-  unlike_rows : (j m : ℕ) → j + m ≤ n → alike (type_word_by word) xs (tab (λ k. type_row ls (row_at ws (row_of 0 k))) j m) ≡ false
+  unlike_rows : (j m : ℕ) → j + m ≤ n → alike w xs (tab (λ k. type_row ls (row_at ws (row_of 0 k))) j m) ≡ false
   unfolding tab alike
   unlike_rows j zero h = refl
   unlike_rows j (suc m) h = rw (unlike_row j (omega arith), unlike_rows (suc j) m (omega arith))
 
   -- all
-  unlike_all : alike (type_word_by word) xs (section (type_row ls) ws 0 n) ≡ false
+  unlike_all : alike w xs (section (type_row ls) ws 0 n) ≡ false
   unfolding section
   unlike_all = unlike_rows 0 n (omega arith)
 
 -- as the code finds it
-pub unlike_known : (ws ls : List ℕ) (word n w : ℕ) (xs : List ℕ) (b : Bool) → Keyed ws ls n → w ≡ type_number (type_word_by word) → b ≡ has_key ws (key_of w xs) → b ≡ false
-    → false ≡ alike (type_word_by word) xs (section (type_row ls) ws 0 n)
-unlike_known ws ls word n w xs b i e g h = sym (unlike_all ws ls word n xs i (rw (← e, ← g) h))
+pub unlike_known : (ws ls : List ℕ) (w : TypeWord) (n : ℕ) (xs : List ℕ) (b : Bool) → Keyed ws ls n → b ≡ has_key ws (key_of (type_number w) xs) → b ≡ false
+    → false ≡ alike w xs (section (type_row ls) ws 0 n)
+unlike_known ws ls w n xs b i g h = sym (unlike_all ws ls w n xs i (sym g ∙ h))

@@ -1,112 +1,75 @@
 -- Marks and depths together, from number to number.
-use mathlib.Core.Path.{◌≡◌, refl, sym, ap, ◌∙◌}
-use mathlib.Core.Bool.{Bool, true, false}
-use mathlib.Core.List.{List}
-use Prim.Native.Nat.{ℕ, ◌+◌, ◌-◌, ◌≤◌, ◌<◌, max}
+use mathlib.Core.Path.{◌≡◌, refl, sym}
+use mathlib.Core.Bool.{not, ◌&&◌}
+use mathlib.Core.List.{List, ◌∷◌, ◌++◌, []}
+use Rattle.std.specs.Prelude.{None, Some}
+use Rattle.std.proofs.lemmas.Option.{none-some, same_Some}
+use Prim.Native.Nat.{ℕ, ◌+◌, ◌-◌, ◌<◌, max}
 use native.Mathlib.Omega.{arith}
-use lib.ListN.{length}
+use native.Mathlib.Nat.{zero-add}
 use Rattle.tables.specs.Tables.{tab}
+use Rattle.fields.proofs.Tabs.{tab_more}
 use Rattle.tables.specs.declared.Counts.{Counts}
-use Rattle.spec.specs.Forms.{Field, Arg}
-use Rattle.spec.specs.Read.{once, mark}
-use Rattle.fields.proofs.Tabs.{tab_here, tab_done}
-use Rattle.line_checks.specs.Rows.{Few, used_in}
-use Rattle.line_checks.specs.Steps.{depth_in, deepest_in, Alike, Marking, once_of, MarkedOne, MarkedRun, MarkedDeep}
-use Rattle.line_checks.specs.declared.Marked.{Marked}
-use Rattle.line_checks.specs.declared.Marked.TheVariants.{Deep, Twice}
-use Rattle.line_checks.proofs.CheckLaws.{deep_next, alike_same, alike_then}
-use Rattle.line_checks.proofs.AlikeLaws.{depth_alike, deepest_alike}
+use Rattle.spec.specs.Forms.{Arg}
+use Rattle.spec.specs.Read.{Used, used_of, mark_of, once, mark}
+use Rattle.line_checks.specs.Rows.{used_in}
+use Rattle.line_checks.specs.Steps.{deepest_in, MarkedOne, MarkedDeep}
+use Rattle.line_checks.proofs.CheckLaws.{and_assoc, tab_from, alike_same, alike_then}
+use Rattle.line_checks.proofs.AlikeLaws.{deepest_alike}
 
-pub same_deep : (d e : ℕ) → Deep d ≡ Deep e → d ≡ e
-same_deep d e g = cc
+-- ---------------------------------------------------------------- one number behind others
 
-pub no_truth : false ≡ true → ⊥
-no_truth g = let z : ◌≡◌ {A = ℕ} 0 1 = cc in omega arith
+once_both : (xs ys : List Arg) (U : Used) → once (xs ++ ys) U ≡ (once xs U && once ys (mark xs U))
+unfolding once mark
+once_both [] ys U = refl
+once_both (a ∷ xs) ys U = let V = mark_of U a.class a.value in rw (once_both xs ys V) (and_assoc (not (used_of U a.class a.value)) (once xs V) (once ys (mark xs V)))
 
-pub not_deep : (d : ℕ) → Twice ≡ Deep d → ⊥
-not_deep d g = let z : ◌≡◌ {A = ℕ} 0 1 = cc in omega arith
+mark_both : (xs ys : List Arg) (U : Used) → mark (xs ++ ys) U ≡ mark ys (mark xs U)
+unfolding mark
+mark_both [] ys U = refl
+mark_both (a ∷ xs) ys U = mark_both xs ys _
 
-module _ (u t : List ℕ) (c : Counts) (f : Field) (x most : ℕ) (r : Bool) (m : Marking u t c f x r) where
-  pub mark_twice : r ≡ false → MarkedOne u t c f x most Twice
-  mark_twice h = record { marking = rw h at m; deep = λ d g. absurd (not_deep d g) }
+deepest_both : (ws : List ℕ) (c : Counts) (xs ys : List Arg) → deepest_in ws c (xs ++ ys) ≡ max (deepest_in ws c xs) (deepest_in ws c ys)
+unfolding deepest_in
+deepest_both ws c [] ys = omega arith
+deepest_both ws c (a ∷ xs) ys = let e = deepest_both ws c xs ys in omega (arith, e)
 
-  pub mark_deep : r ≡ true → (d : ℕ) → d ≡ max most (depth_in t c f x) → MarkedOne u t c f x most (Deep d)
-  mark_deep h d e = record { marking = rw h at m; deep = λ k g. sym (same_deep d k g) ∙ e }
+module _ (u t v : List ℕ) (c : Counts) (xs : List Arg) (a : Arg) (most : ℕ) (s : MarkedDeep u t c xs (Some most)) where
+  -- marked, as those before it were
+  marks_more : (d : ℕ) → MarkedOne t v c a.class a.value most (Some d) → MarkedDeep u v c (xs ++ a ∷ []) (Some d)
+  unfolding once mark deepest_in
+  marks_more d m =
+      record {
+        whole = record {
+          answer = rw (once_both xs (a ∷ []) (used_in u c), ← s.whole.answer, ← s.whole.marks refl, ← m.marking.answer);
+          marks = λ g. rw (mark_both xs (a ∷ []) (used_in u c), ← s.whole.marks refl) m.marking.marks;
+          alike = alike_then u t v s.whole.alike m.marking.alike;
+        };
+        deep = λ e g. omega (arith, m.deep e g, deepest_both v c xs (a ∷ []), deepest_alike t v c m.marking.alike xs, s.deep most refl);
+      }
+
+  -- marked a second time, whatever stands behind it
+  marks_twice : (ys : List Arg) → MarkedOne t v c a.class a.value most None → MarkedDeep u v c (xs ++ a ∷ ys) None
+  unfolding once mark
+  marks_twice ys m =
+      record {
+        whole = record {
+          answer = rw (once_both xs (a ∷ ys) (used_in u c), ← s.whole.answer, ← s.whole.marks refl, ← m.marking.answer);
+          marks = λ g. absurd (let z : ◌≡◌ {A = ℕ} 0 1 = cc in omega arith);
+          alike = alike_then u t v s.whole.alike m.marking.alike;
+        };
+        deep = λ d g. absurd (none-some d g);
+      }
 
 -- ---------------------------------------------------------------- a loop over numbers
 
--- of a line's numbers those from i on are left
-pub record Marks (u t : List ℕ) (c : Counts) (xa : List Arg) (first : ℕ) (f : ℕ → Arg) (n most i : ℕ) : Type 0 where
-  pub high : i ≤ n
-  pub long : length t ≡ length u
-  pub alike : Alike u t
-  pub answer : once xa (used_in u c) ≡ once (tab f i (n - i)) (used_in t c)
-  pub marks : mark xa (used_in u c) ≡ mark (tab f i (n - i)) (used_in t c)
-  pub deep : max first (deepest_in u c xa) ≡ max most (deepest_in u c (tab f i (n - i)))
+pub marks_none : (u : List ℕ) (c : Counts) (f : ℕ → Arg) → MarkedDeep u u c (tab f 0 0) (Some 0)
+unfolding tab once mark deepest_in
+marks_none u c f = record { whole = record { answer = refl; marks = λ g. refl; alike = alike_same u }; deep = λ d g. sym (same_Some 0 d g) }
 
-pub marks_start : (u : List ℕ) (c : Counts) (xa : List Arg) (first : ℕ) (f : ℕ → Arg) (n : ℕ) → xa ≡ tab f 0 (n - 0) → Marks u u c xa first f n first 0
-marks_start u c xa first f n e =
-    record {
-      high = omega arith;
-      long = refl;
-      alike = alike_same u;
-      answer = rw e;
-      marks = rw e;
-      deep = rw e;
-    }
+module _ (u t v : List ℕ) (c : Counts) (f : ℕ → Arg) (i most : ℕ) (a : Arg) (s : MarkedDeep u t c (tab f 0 i) (Some most)) (q : f i ≡ a) where
+  pub marks_next : (j d : ℕ) → j ≡ i + 1 → MarkedOne t v c a.class a.value most (Some d) → MarkedDeep u v c (tab f 0 j) (Some d)
+  marks_next j d z m = rw (z, tab_more f 0 i, zero-add, q) (marks_more u t v c (tab f 0 i) a most s d m)
 
-module _ (u t : List ℕ) (c : Counts) (xa : List Arg) (first : ℕ) (f : ℕ → Arg) (n most i : ℕ) (few : Few c) (s : Marks u t c xa first f n most i) (v : List ℕ) (r : Marked) where
-  pub marks_next : (d : ℕ) → i < n → length v ≡ length t → MarkedOne t v c (f i).class (f i).value most r → r ≡ Deep d → Marks u v c xa first f n d (i + 1)
-  unfolding once mark
-  marks_next d h l m e =
-      let a = alike_then u t v s.alike m.marking.alike in
-      record {
-        high = omega arith;
-        long = l ∙ s.long;
-        alike = a;
-        answer = s.answer ∙ rw (tab_here f i n h, ← m.marking.answer, ap once_of e, m.marking.marks);
-        marks = s.marks ∙ rw (tab_here f i n h, m.marking.marks);
-        deep = deep_next u c f (max first (deepest_in u c xa)) most i n s.deep d h (m.deep d e ∙ ap (max most) (depth_alike u v c a (f i).class (f i).value));
-      }
-
-  -- the numbers that are left, marked in a run
-  pub marks_rest : MarkedRun t v c (tab f i (n - i)) most r → MarkedRun u v c xa first r
-  marks_rest m =
-      let a = alike_then u t v s.alike m.whole.alike in
-      record {
-        whole = record {
-          answer = m.whole.answer ∙ sym s.answer;
-          marks = λ g. m.whole.marks g ∙ sym s.marks;
-          alike = a;
-        };
-        deep = λ d e.
-            m.deep d e
-            ∙ ap (max most) (deepest_alike u v c a (tab f i (n - i)))
-            ∙ sym s.deep
-            ∙ ap (max first) (sym (deepest_alike u v c a xa));
-      }
-
-  pub marks_twice : i < n → MarkedOne t v c (f i).class (f i).value most r → r ≡ Twice → MarkedRun u v c xa first Twice
-  unfolding once
-  marks_twice h m e =
-      rw (← e) (marks_rest record {
-        whole = record {
-          answer = ap once_of e ∙ rw (tab_here f i n h, ← m.marking.answer, ap once_of e);
-          marks = λ g. absurd (no_truth (sym (ap once_of e) ∙ g));
-          alike = m.marking.alike;
-        };
-        deep = λ d g. absurd (not_deep d (sym e ∙ g));
-      })
-
-pub marks_end : (u t : List ℕ) (c : Counts) (xa : List Arg) (first : ℕ) (f : ℕ → Arg) (n most i : ℕ) → Few c → Marks u t c xa first f n most i → n ≤ i
-    → MarkedRun u t c xa first (Deep most)
-unfolding once mark deepest_in
-marks_end u t c xa first f n most i few s h =
-    marks_rest u t c xa first f n most i few s t (Deep most) record {
-      whole = record { answer = rw (tab_done f i n h); marks = λ g. rw (tab_done f i n h); alike = alike_same t };
-      deep = λ d g. rw (tab_done f i n h) (omega (arith, same_deep most d g));
-    }
-
--- a whole line's numbers
-pub run_deep : (u t : List ℕ) (c : Counts) (xa : List Arg) (r : Marked) → MarkedRun u t c xa 0 r → MarkedDeep u t c xa r
-run_deep u t c xa r m = record { whole = m.whole; deep = λ d e. omega (arith, m.deep d e) }
+  pub marks_stop : (n : ℕ) → i < n → MarkedOne t v c a.class a.value most None → MarkedDeep u v c (tab f 0 n) None
+  marks_stop n h m = rw (tab_from f i n h, q) (marks_twice u t v c (tab f 0 i) a most s (tab f (i + 1) (n - (i + 1))) m)

@@ -1,19 +1,21 @@
 -- Rows in the words of a table: what a store changes, and sections of rows.
 use mathlib.Core.Path.{◌≡◌, refl, sym, ap, ◌∙◌}
-use mathlib.Core.Bool.{true, false}
+use mathlib.Core.Bool.{Bool, true, false}
 use mathlib.Core.List.{List, ◌∷◌, ◌++◌, []}
 use mathlib.Core.Logic.{◌≢◌}
-use Prim.Native.Nat.{ℕ, zero, suc, ◌+◌, ◌*◌, ◌≤◌, ◌<◌}
+use Prim.Native.Nat.{ℕ, zero, suc, ◌+◌, ◌-◌, ◌*◌, ◌≤◌, ◌<◌}
 use native.Mathlib.Omega.{arith}
 use native.Mathlib.Nat.{add-zero, zero-add}
-use lib.Dec.{lit<}
-use lib.ListN.{length, get_or, set, length-set, get_or-eq_default}
-use lib.Seq.{get_or-set_same, get_or-set_other, set_out}
-use borrow.Author.Tests.{eqb-false, lt-ltb, ne_eqb}
+use lib.Dec.{ltb, lit<}
+use lib.ListN.{length, get_or, set, take, drop, length-set, length-append, length-drop, get_or-append, get_or-eq_default}
+use lib.Seq.{get_or-set_same, get_or-set_other, set_out, length-take-le}
+use Rattle.std.proofs.lemmas.List.{get_or-take, get_or-drop, get_or-append_right}
+use borrow.Author.Tests.{lt-ltb, ltb-true, ltb-false, ne_eqb}
 use Rattle.tables.specs.Tables.{tab, row_of, cell}
 use Rattle.tables.proofs.Laws.{length_tab, get_d_tab_in}
 use Rattle.fields.proofs.Tabs.{tab_more, tab_same}
-use Rattle.line_checks.specs.Rows.{word_at, Row, row_at, section, marked, RowPut, MarkAt}
+use Rattle.line_checks.specs.Rows.{word_at, row_at, section, marked, RowPut, MarkAt}
+use Rattle.line_checks.specs.declared.rows.Row.{Row}
 
 -- a word stored
 pub record Stored (u t : List ℕ) (r j v : ℕ) : Type 0 where
@@ -33,64 +35,56 @@ stored u r j v h l =
     other : (q i : ℕ) → i < 6 → (q ≡ r → i ≡ j → ⊥) → q * 6 + i ≢ r * 6 + j
     other q i g n e = n (omega arith) (omega arith)
 
-module _ (u u1 u2 u3 u4 u5 u6 : List ℕ) (r a b c d e f : ℕ) (s0 : Stored u u1 r 0 a) (s1 : Stored u1 u2 r 1 b) (s2 : Stored u2 u3 r 2 c)
-    (s3 : Stored u3 u4 r 3 d) (s4 : Stored u4 u5 r 4 e) (s5 : Stored u5 u6 r 5 f) where
-  h0 : word_at u6 r 0 ≡ a
-  h0 = s5.others r 0 (lit< tt) (λ p q. eqb-false 0 5 refl q) ∙ s4.others r 0 (lit< tt) (λ p q. eqb-false 0 4 refl q) ∙ s3.others r 0 (lit< tt) (λ p q. eqb-false 0 3 refl q) ∙ s2.others r 0 (lit< tt) (λ p q. eqb-false 0 2 refl q) ∙ s1.others r 0 (lit< tt) (λ p q. eqb-false 0 1 refl q) ∙ s0.here
+-- six words from p on anew
+abbrev with_six : ℕ → List ℕ → List ℕ → List ℕ
+with_six p u xs = take p u ++ (xs ++ drop 6 (drop p u))
 
-  h1 : word_at u6 r 1 ≡ b
-  h1 = s5.others r 1 (lit< tt) (λ p q. eqb-false 1 5 refl q) ∙ s4.others r 1 (lit< tt) (λ p q. eqb-false 1 4 refl q) ∙ s3.others r 1 (lit< tt) (λ p q. eqb-false 1 3 refl q) ∙ s2.others r 1 (lit< tt) (λ p q. eqb-false 1 2 refl q) ∙ s1.here
+module _ (u xs : List ℕ) (p : ℕ) (n : length xs ≡ 6) (l : p + 6 ≤ length u) where
+  front : length (take p u) ≡ p
+  front = length-take-le p u (omega arith)
 
-  h2 : word_at u6 r 2 ≡ c
-  h2 = s5.others r 2 (lit< tt) (λ p q. eqb-false 2 5 refl q) ∙ s4.others r 2 (lit< tt) (λ p q. eqb-false 2 4 refl q) ∙ s3.others r 2 (lit< tt) (λ p q. eqb-false 2 3 refl q) ∙ s2.here
+  six_before : (i : ℕ) → i < p → get_or (with_six p u xs) i 0 ≡ get_or u i 0
+  six_before i h = get_or-append (take p u) (xs ++ drop 6 (drop p u)) 0 i (rw front h) ∙ get_or-take p u i 0 h
 
-  h3 : word_at u6 r 3 ≡ d
-  h3 = s5.others r 3 (lit< tt) (λ p q. eqb-false 3 5 refl q) ∙ s4.others r 3 (lit< tt) (λ p q. eqb-false 3 4 refl q) ∙ s3.here
+  six_at : (j : ℕ) → j < 6 → get_or (with_six p u xs) (p + j) 0 ≡ get_or xs j 0
+  six_at j h =
+      get_or-append_right (take p u) (xs ++ drop 6 (drop p u)) p (p + j) 0 front (omega arith)
+      ∙ (let z : p + j - p ≡ j = omega arith in rw z (get_or-append xs (drop 6 (drop p u)) 0 j (rw n h)))
 
-  h4 : word_at u6 r 4 ≡ e
-  h4 = s5.others r 4 (lit< tt) (λ p q. eqb-false 4 5 refl q) ∙ s4.here
+  six_behind : (i : ℕ) → p + 6 ≤ i → get_or (with_six p u xs) i 0 ≡ get_or u i 0
+  six_behind i h =
+      get_or-append_right (take p u) (xs ++ drop 6 (drop p u)) p i 0 front (omega arith)
+      ∙ get_or-append_right xs (drop 6 (drop p u)) 6 (i - p) 0 n (omega arith)
+      ∙ get_or-drop 6 (drop p u) (i - p - 6) 0
+      ∙ get_or-drop p u (6 + (i - p - 6)) 0
+      ∙ (let z : p + (6 + (i - p - 6)) ≡ i = omega arith in rw z)
 
-  h5 : word_at u6 r 5 ≡ f
-  h5 = s5.here
+  six_long : length (with_six p u xs) ≡ length u
+  six_long =
+      let a = length-append (take p u) (xs ++ drop 6 (drop p u)) in
+      let b = length-append xs (drop 6 (drop p u)) in
+      omega (arith, a, b, front, n, length-drop 6 (drop p u), length-drop p u)
 
-  o0 : (q : ℕ) → (q ≡ r → ⊥) → word_at u6 q 0 ≡ word_at u q 0
-  o0 q h = s5.others q 0 (lit< tt) (λ p z. h p) ∙ s4.others q 0 (lit< tt) (λ p z. h p) ∙ s3.others q 0 (lit< tt) (λ p z. h p) ∙ s2.others q 0 (lit< tt) (λ p z. h p) ∙ s1.others q 0 (lit< tt) (λ p z. h p) ∙ s0.others q 0 (lit< tt) (λ p z. h p)
+module _ (u xs : List ℕ) (r : ℕ) (n : length xs ≡ 6) (l : r * 6 + 6 ≤ length u) where
+  six_others : (q j : ℕ) → (q ≡ r → ⊥) → j < 6 → get_or (with_six (r * 6) u xs) (q * 6 + j) 0 ≡ get_or u (q * 6 + j) 0
+  six_others q j o h = by (ltb q r) refl
+    where
+      by : (t : Bool) → ltb q r ≡ t → get_or (with_six (r * 6) u xs) (q * 6 + j) 0 ≡ get_or u (q * 6 + j) 0
+      by true e = let g = ltb-true q r e in six_before u xs (r * 6) n l (q * 6 + j) (omega arith)
+      by false e = let g = ltb-false q r e in six_behind u xs (r * 6) n l (q * 6 + j) (omega (arith, o))
 
-  o1 : (q : ℕ) → (q ≡ r → ⊥) → word_at u6 q 1 ≡ word_at u q 1
-  o1 q h = s5.others q 1 (lit< tt) (λ p z. h p) ∙ s4.others q 1 (lit< tt) (λ p z. h p) ∙ s3.others q 1 (lit< tt) (λ p z. h p) ∙ s2.others q 1 (lit< tt) (λ p z. h p) ∙ s1.others q 1 (lit< tt) (λ p z. h p) ∙ s0.others q 1 (lit< tt) (λ p z. h p)
-
-  o2 : (q : ℕ) → (q ≡ r → ⊥) → word_at u6 q 2 ≡ word_at u q 2
-  o2 q h = s5.others q 2 (lit< tt) (λ p z. h p) ∙ s4.others q 2 (lit< tt) (λ p z. h p) ∙ s3.others q 2 (lit< tt) (λ p z. h p) ∙ s2.others q 2 (lit< tt) (λ p z. h p) ∙ s1.others q 2 (lit< tt) (λ p z. h p) ∙ s0.others q 2 (lit< tt) (λ p z. h p)
-
-  o3 : (q : ℕ) → (q ≡ r → ⊥) → word_at u6 q 3 ≡ word_at u q 3
-  o3 q h = s5.others q 3 (lit< tt) (λ p z. h p) ∙ s4.others q 3 (lit< tt) (λ p z. h p) ∙ s3.others q 3 (lit< tt) (λ p z. h p) ∙ s2.others q 3 (lit< tt) (λ p z. h p) ∙ s1.others q 3 (lit< tt) (λ p z. h p) ∙ s0.others q 3 (lit< tt) (λ p z. h p)
-
-  o4 : (q : ℕ) → (q ≡ r → ⊥) → word_at u6 q 4 ≡ word_at u q 4
-  o4 q h = s5.others q 4 (lit< tt) (λ p z. h p) ∙ s4.others q 4 (lit< tt) (λ p z. h p) ∙ s3.others q 4 (lit< tt) (λ p z. h p) ∙ s2.others q 4 (lit< tt) (λ p z. h p) ∙ s1.others q 4 (lit< tt) (λ p z. h p) ∙ s0.others q 4 (lit< tt) (λ p z. h p)
-
-  o5 : (q : ℕ) → (q ≡ r → ⊥) → word_at u6 q 5 ≡ word_at u q 5
-  o5 q h = s5.others q 5 (lit< tt) (λ p z. h p) ∙ s4.others q 5 (lit< tt) (λ p z. h p) ∙ s3.others q 5 (lit< tt) (λ p z. h p) ∙ s2.others q 5 (lit< tt) (λ p z. h p) ∙ s1.others q 5 (lit< tt) (λ p z. h p) ∙ s0.others q 5 (lit< tt) (λ p z. h p)
-
-  six : RowPut u u6 r (record { word = a; start = b; count = c; third = d; fourth = e; fifth = f })
-  unfolding row_at
-  six =
-      record {
-        here = rw (h0, h1, h2, h3, h4, h5);
-        others = λ q h. rw (o0 q h, o1 q h, o2 q h, o3 q h, o4 q h, o5 q h);
-        long = s5.long ∙ s4.long ∙ s3.long ∙ s2.long ∙ s1.long ∙ s0.long;
-      }
-
-pub put_row : (u : List ℕ) (r a b c d e f : ℕ) → r * 6 + 6 ≤ length u
-    → RowPut u (set (set (set (set (set (set u (r * 6) a) (r * 6 + 1) b) (r * 6 + 2) c) (r * 6 + 3) d) (r * 6 + 4) e) (r * 6 + 5) f) r
-    (record { word = a; start = b; count = c; third = d; fourth = e; fifth = f })
-put_row u r a b c d e f l =
-    let s0 : Stored u (set u (r * 6) a) r 0 a = rw add-zero at (stored u r 0 a (lit< tt) (omega arith)) in
-    let s1 = stored (set u (r * 6) a) r 1 b (lit< tt) (omega (arith, s0.long)) in
-    let s2 = stored (set (set u (r * 6) a) (r * 6 + 1) b) r 2 c (lit< tt) (omega (arith, s0.long, s1.long)) in
-    let s3 = stored (set (set (set u (r * 6) a) (r * 6 + 1) b) (r * 6 + 2) c) r 3 d (lit< tt) (omega (arith, s0.long, s1.long, s2.long)) in
-    let s4 = stored (set (set (set (set u (r * 6) a) (r * 6 + 1) b) (r * 6 + 2) c) (r * 6 + 3) d) r 4 e (lit< tt) (omega (arith, s0.long, s1.long, s2.long, s3.long)) in
-    let s5 = stored (set (set (set (set (set u (r * 6) a) (r * 6 + 1) b) (r * 6 + 2) c) (r * 6 + 3) d) (r * 6 + 4) e) r 5 f (lit< tt) (omega (arith, s0.long, s1.long, s2.long, s3.long, s4.long)) in
-    six _ _ _ _ _ _ _ r a b c d e f s0 s1 s2 s3 s4 s5
+pub put_row : (u xs : List ℕ) (r : ℕ) (x : Row) → r * 6 + 6 ≤ length u → xs ≡ x.word ∷ x.start ∷ x.count ∷ x.third ∷ x.fourth ∷ x.fifth ∷ []
+    → RowPut u (take (r * 6) u ++ (xs ++ drop (r * 6 + 6 - r * 6) (drop (r * 6) u))) r x
+unfolding row_at word_at
+put_row u xs r x l e =
+    let z : r * 6 + 6 - r * 6 ≡ 6 = omega arith in
+    let n : length xs ≡ 6 = rw e in
+    let here = six_at u xs (r * 6) n l in
+    rw z record {
+      here = rw (here 0 (lit< tt), here 1 (lit< tt), here 2 (lit< tt), here 3 (lit< tt), here 4 (lit< tt), here 5 (lit< tt), e);
+      others = λ q o. let same = λ (j : ℕ) (h : j < 6). six_others u xs r n l q j o h in rw (same 0 (lit< tt), same 1 (lit< tt), same 2 (lit< tt), same 3 (lit< tt), same 4 (lit< tt), same 5 (lit< tt));
+      long = six_long u xs (r * 6) n l;
+    }
 
 -- ---------------------------------------------------------------- sections
 

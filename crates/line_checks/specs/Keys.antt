@@ -4,7 +4,8 @@ use Rattle.std.specs.Prelude.{ℕ, ◌+◌, ◌*◌, ◌/◌, ◌%◌, ◌<◌, 
 use Rattle.tables.specs.Tables.{pick, row_of, type_word_by}
 use Rattle.spec.specs.Limits.{type_lines}
 use Rattle.spec.specs.Read.{type_number}
-use Rattle.line_checks.specs.Rows.{Row, row_at, numbers}
+use Rattle.line_checks.specs.Rows.{row_at, numbers}
+use Rattle.line_checks.specs.declared.rows.Row.{Row}
 
 -- numbers taken into a key
 unfoldable pub key_from : ℕ → List ℕ → ℕ

@@ -1,3 +1,5 @@
 pub mod Rows
 pub mod Keys
+pub mod Words
+pub mod Types
 pub mod Steps

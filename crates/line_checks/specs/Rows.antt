@@ -2,22 +2,16 @@
 -- nodes' rows stand in one slice with all others, behind the places', and the words behind all rows are those of specs/Keys.antt.
 use Rattle.std.specs.Prelude.{ℕ, ◌+◌, ◌*◌, ◌≤◌, ◌<◌, ◌≡◌, Bool, true, false, not, List, eqb, length, get_or, set}
 use Rattle.tables.specs.Tables.{tab, row_of, run, storages_from, variables_from, statics_from, places_from, type_word_by, place_word_by, node_word_by}
+pub use Rattle.tables.specs.Tables.{nodes_from}
 use Rattle.spec.specs.Limits.{type_lines, storage_lines, variable_lines, static_lines, place_lines, node_lines}
 use Rattle.spec.specs.Ticket.{TypeLine, StorageLine, PlacedLine, PlaceLine, NodeLine, Tables, arg}
 use Rattle.spec.specs.Read.{Used, Reading, storage_line, placed_line, behind_type}
 use Rattle.tables.specs.declared.Counts.{Counts}
+use Rattle.line_checks.specs.declared.rows.Row.{Row}
 
 -- word j of row r
 unfoldable pub word_at : List ℕ → ℕ → ℕ → ℕ
 word_at ws r j = get_or ws (r * 6 + j) 0
-
-pub record Row : Type 0 where
-  pub word : ℕ
-  pub start : ℕ
-  pub count : ℕ
-  pub third : ℕ
-  pub fourth : ℕ
-  pub fifth : ℕ
 
 unfoldable pub row_at : List ℕ → ℕ → Row
 row_at ws r = record { word = word_at ws r 0; start = word_at ws r 1; count = word_at ws r 2; third = word_at ws r 3; fourth = word_at ws r 4; fifth = word_at ws r 5 }
@@ -25,10 +19,6 @@ row_at ws r = record { word = word_at ws r 0; start = word_at ws r 1; count = wo
 -- n rows of a kind, as f reads them
 unfoldable pub section : {A : Type 0} → (Row → A) → List ℕ → ℕ → ℕ → List A
 section f ws base n = tab (λ k. f (row_at ws (row_of base k))) 0 n
-
--- the last kind
-abbrev pub nodes_from : ℕ
-nodes_from = 5
 
 unfoldable pub numbers : List ℕ → Row → List ℕ
 numbers ls r = run ls r.start r.count

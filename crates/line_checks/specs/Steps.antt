@@ -1,30 +1,26 @@
 -- The code's answers to each test, as those of `Read`.
-use Rattle.std.specs.Prelude.{ℕ, ◌+◌, ◌<◌, max, ◌≡◌, Bool, true, false, not, ◌&&◌, List, ◌∷◌, [], eqb, leb, ltb}
-use Rattle.std.proofs.Math.Option.{Option, none, some}
-use Rattle.tables.specs.Tables.{pick, row_of, run, places_from, cell}
+use Rattle.std.specs.Prelude.{ℕ, ◌<◌, max, ◌≡◌, Bool, true, not, ◌&&◌, List, ◌∷◌, [], eqb, leb, ltb, length, get_or}
+use Rattle.std.specs.Prelude.{Option, None, Some, is_some, Result, Ok, Err}
+use Rattle.tables.specs.Tables.{pick, tab, row_of, places_from, cell}
 use Rattle.spec.specs.Limits.{type_lines, storage_lines, variable_lines, static_lines, place_lines, node_lines, type_size_limit, type_weight_limit}
 use Rattle.spec.specs.Text.{same}
-use Rattle.spec.specs.Ticket.{TypeLine}
+use Rattle.spec.specs.Ticket.{TypeWord, TypeLine}
 use Rattle.spec.specs.Forms.{Field, between, float_width, type_part, type, storage, place, node, Arg}
 use Rattle.spec.specs.Read.{all, rank, in_order, in_range, fields_fit, used_of, mark_of, once, mark, type_number, Test, test}
-use Rattle.line_forms.specs.Classes.{head_of, args_of}
+use Rattle.line_forms.specs.Classes.{head_of, class_at, arg_at}
 use Rattle.line_checks.specs.Rows.{word_at, row_at, used_in, nodes_from}
 use Rattle.line_forms.specs.declared.LineKind.{LineKind}
 use Rattle.line_forms.specs.declared.LineKind.TheVariants.{Functions, Types, Storages, Variables, Statics, Places, Nodes}
 use Rattle.line_forms.specs.declared.Form.{Form}
 use Rattle.tables.specs.declared.Counts.{Counts}
-use Rattle.line_checks.specs.declared.Verdict.{Verdict}
-use Rattle.line_checks.specs.declared.Verdict.TheVariants.{Passed, Refused}
-use Rattle.line_checks.specs.declared.Capped.{Capped}
-use Rattle.line_checks.specs.declared.Capped.TheVariants.{Within, Over}
-use Rattle.line_checks.specs.declared.Marked.{Marked}
-use Rattle.line_checks.specs.declared.Marked.TheVariants.{Deep, Twice}
-use Rattle.line_checks.specs.declared.Measured.{Measured}
-use Rattle.line_checks.specs.declared.Measured.TheVariants.{Fits, TooLarge}
+use Rattle.answers.specs.declared.Refusal.{Refusal}
+use Rattle.answers.specs.Refusals.{refusal_number}
+use Rattle.line_checks.specs.declared.Measure.{Measure}
 
-abbrev pub verdict_of : Verdict → Option ℕ
-verdict_of Passed = none
-verdict_of (Refused n) = some n
+-- the number of the refusal, if any
+abbrev pub verdict_of : {A : Type 0} → Result A Refusal → Option ℕ
+verdict_of (Ok a) = None
+verdict_of (Err e) = Some (refusal_number e)
 
 -- ---------------------------------------------------------------- tests by the counts and the words in place of tables
 
@@ -62,13 +58,20 @@ unfoldable pub deepest_in : List ℕ → Counts → List Arg → ℕ
 deepest_in ws c [] = 0
 deepest_in ws c (a ∷ xa) = max (depth_in ws c a.class a.value) (deepest_in ws c xa)
 
--- the first four tests
+-- a line's numbers with their classes
+abbrev pub arg_in : LineKind → ℕ → List ℕ → ℕ → Arg
+arg_in k w xs = arg_at (class_at k w) (λ i. get_or xs i 0)
+
+unfoldable pub args_in : LineKind → ℕ → List ℕ → List Arg
+args_in k w xs = tab (arg_in k w xs) 0 (length xs)
+
+-- the first four tests of a line of these numbers
 abbrev pub early_tests : Form → List ℕ → Counts → List Test
-early_tests f ls c =
+early_tests f xs c =
     test 2 (in_order c.stage (rank (head_of f.kind 0))) ∷
     test 8 (few_by_counts f.kind c) ∷
-    test 3 (all in_range (args_of f ls c.used) && fields_fit (head_of f.kind f.word) (run ls c.used f.count)) ∷
-    test 4 (all (earlier_arg c) (args_of f ls c.used)) ∷
+    test 3 (all in_range (args_in f.kind f.word xs) && fields_fit (head_of f.kind f.word) xs) ∷
+    test 4 (all (earlier_arg c) (args_in f.kind f.word xs)) ∷
     []
 
 -- ---------------------------------------------------------------- marks
@@ -90,48 +93,27 @@ pub record MarkedAll (u t : List ℕ) (c : Counts) (xa : List Arg) (r : Bool) : 
   pub alike : Alike u t
 
 -- the same with the depth, from number to number
-abbrev pub once_of : Marked → Bool
-once_of (Deep d) = true
-once_of Twice = false
+pub record MarkedOne (u t : List ℕ) (c : Counts) (f : Field) (x most : ℕ) (r : Option ℕ) : Type 0 where
+  pub marking : Marking u t c f x (is_some r)
+  pub deep : (d : ℕ) → r ≡ Some d → d ≡ max most (depth_in t c f x)
 
-pub record MarkedOne (u t : List ℕ) (c : Counts) (f : Field) (x most : ℕ) (r : Marked) : Type 0 where
-  pub marking : Marking u t c f x (once_of r)
-  pub deep : (d : ℕ) → r ≡ Deep d → d ≡ max most (depth_in t c f x)
-
-pub record MarkedRun (u t : List ℕ) (c : Counts) (xa : List Arg) (most : ℕ) (r : Marked) : Type 0 where
-  pub whole : MarkedAll u t c xa (once_of r)
-  pub deep : (d : ℕ) → r ≡ Deep d → d ≡ max most (deepest_in t c xa)
-
-pub record MarkedDeep (u t : List ℕ) (c : Counts) (xa : List Arg) (r : Marked) : Type 0 where
-  pub whole : MarkedAll u t c xa (once_of r)
-  pub deep : (d : ℕ) → r ≡ Deep d → d ≡ deepest_in t c xa
+pub record MarkedDeep (u t : List ℕ) (c : Counts) (xa : List Arg) (r : Option ℕ) : Type 0 where
+  pub whole : MarkedAll u t c xa (is_some r)
+  pub deep : (d : ℕ) → r ≡ Some d → d ≡ deepest_in t c xa
 
 -- ---------------------------------------------------------------- measures
 
 unfoldable pub capped : ℕ → ℕ → Option ℕ
-capped limit n = pick (leb n limit) (some n) none
+capped limit n = pick (leb n limit) (Some n) None
 
-abbrev pub capped_of : Capped → Option ℕ
-capped_of (Within n) = some n
-capped_of Over = none
+-- a size and a weight, where both are within their limits
+unfoldable pub both_within : ℕ → ℕ → ℕ → ℕ → Option Measure
+both_within a b s w = pick (leb s a && leb w b) (Some (record { size = s; weight = w })) None
 
--- a type's size and weight, where both are small enough
-pub record Measure : Type 0 where
-  pub size : ℕ
-  pub weight : ℕ
+-- a type's
+abbrev pub measured : ℕ → ℕ → Option Measure
+measured s w = both_within type_size_limit type_weight_limit s w
 
-unfoldable pub measured : ℕ → ℕ → Option Measure
-measured s w = pick (leb s type_size_limit && leb w type_weight_limit) (some (record { size = s; weight = w })) none
-
-abbrev pub measured_of : Measured → Option Measure
-measured_of (Fits s w) = some (record { size = s; weight = w })
-measured_of TooLarge = none
-
--- one more than a number within a limit, within that limit
-abbrev pub capped_after : ℕ → Option ℕ → Option ℕ
-capped_after limit none = none
-capped_after limit (some n) = capped limit (1 + n)
-
--- a type line that has this word's number and these numbers
-abbrev pub alike_to : ℕ → List ℕ → TypeLine → Bool
-alike_to w xs t = eqb w (type_number t.word) && same xs t.args
+-- a type line that has this word and these numbers
+abbrev pub alike_to : TypeWord → List ℕ → TypeLine → Bool
+alike_to w xs t = eqb (type_number w) (type_number t.word) && same xs t.args

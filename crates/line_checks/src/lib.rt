@@ -6,37 +6,12 @@ pub mod keys;
 pub mod limits;
 pub mod measures;
 pub mod rows;
+pub mod types;
+pub mod words;
 
-// A number within a limit.
-#[derive(Drop)]
-pub enum Capped {
-    Within(u64),
-    Over,
-}
-
-#[derive(Drop)]
-pub enum Verdict {
-    Passed,
-    Refused(u64),
-}
-
-// Whether numbers are within their ranges, and are earlier lines' numbers where they name lines.
-#[derive(Clone, Copy)]
-pub struct Seen {
-    pub ranged: bool,
-    pub earlier: bool,
-}
-
-// The depth of what numbers refer to, or one of them refers to a line a second time.
-#[derive(Drop)]
-pub enum Marked {
-    Deep(u64),
-    Twice,
-}
-
-// A type's size and weight.
-#[derive(Drop)]
-pub enum Measured {
-    Fits(u64, u64),
-    TooLarge,
+/// A size and a weight: a type's, or a sum of them.
+#[derive(Clone, Copy, Debug, Default, PartialEq, Eq)]
+pub struct Measure {
+    pub size: u64,
+    pub weight: u64,
 }

@@ -1,28 +1,32 @@
 // The words of the tables: a row stored, a row marked. Look-ups are those of crate `tables`, which has the layout.
-ghost use Rattle.std.specs.Prelude.{true, ◌+◌, ◌*◌, ◌≤◌, ◌<◌, length};
+ghost use Rattle.std.specs.Prelude.{◌+◌, ◌*◌, ◌≤◌, ◌<◌, length};
 ghost use Rattle.line_checks.specs.Rows.{RowPut, MarkAt};
 
+/// A row: a line's word, where its numbers start in the lists and how many they are, and three words more by its kind.
+#[derive(Clone, Copy)]
+pub struct Row {
+    pub word: u64,
+    pub start: usize,
+    pub count: usize,
+    pub third: u64,
+    pub fourth: u64,
+    pub fifth: u64,
+}
+
 // Row r anew.
-pub fn put_row(
-    rows: &mut [u64],
-    r: u64,
-    word: u64,
-    start: usize,
-    n: usize,
-    third: u64,
-    fourth: u64,
-    fifth: u64,
-)
+pub fn put_row(rows: &mut [u64], r: u64, row: Row)
     requires { (r < 65536) × (r * 6 + 6 ≤ length rows.old) }
-    ensures { RowPut rows.old rows.new r (record { word = word; start = start; count = n; third = third; fourth = fourth; fifth = fifth }) }
+    ensures { RowPut rows.old rows.new r row }
 {
     let at = r as usize * 6;
-    rows[at] = word;
-    rows[at + 1] = start as u64;
-    rows[at + 2] = n as u64;
-    rows[at + 3] = third;
-    rows[at + 4] = fourth;
-    rows[at + 5] = fifth;
+    rows[at..at + 6].copy_from_slice(&[
+        row.word,
+        row.start as u64,
+        row.count as u64,
+        row.third,
+        row.fourth,
+        row.fifth,
+    ]);
 }
 
 // Marks row k of the n of a kind: false where it was marked.

@@ -3,3 +3,5 @@ pub mod LineForms
 pub mod Classed
 pub mod NumberLaws
 pub mod Tries
+pub mod KindLaws
+pub mod RuleLaws

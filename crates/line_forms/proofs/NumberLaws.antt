@@ -2,20 +2,17 @@
 use mathlib.Core.Path.{◌≡◌, ap}
 use mathlib.Core.Bool.{Bool, true, false}
 use mathlib.Core.List.{List, ◌∷◌, ◌++◌}
-use mathlib.Core.Option.{none, some}
-use Prim.Native.Nat.{ℕ, zero, suc, ◌+◌, ◌-◌, ◌*◌, ◌≤◌}
+use Rattle.std.specs.Prelude.{None, Some}
+use Prim.Native.Nat.{ℕ, zero, suc, ◌+◌, ◌*◌, ◌≤◌}
 use native.Mathlib.Omega.{arith}
 use native.Mathlib.Nat.{add-zero, zero-add}
 use lib.ListN.{length, get_or}
 use Rattle.tables.specs.Tables.{tab, pick, run}
 use Rattle.fields.specs.Fields.{numbers_of, onto, fields_from, Listing, Kept}
-use Rattle.fields.specs.declared.Listed.{Listed}
-use Rattle.fields.specs.declared.Listed.TheVariants.{Numbers, Broken}
 use Rattle.tables.proofs.Laws.{length_run, arg_in}
 use Rattle.fields.proofs.Tabs.{tab_same, run_kept}
-use Rattle.line_forms.specs.Classes.{class_at, arg_at, counted, form_by_number, args_of, line_from, FormAt}
+use Rattle.line_forms.specs.Classes.{class_at, fields_of, rest_of, fits, arg_at, form_by_number, args_of, line_from, FormAt}
 use Rattle.line_forms.specs.declared.LineKind.{LineKind}
-use Rattle.line_forms.specs.declared.Formed.TheVariants.{Line as Lined, Unformed}
 
 pub run_add : (ls : List ℕ) (a m n : ℕ) → run ls a (m + n) ≡ run ls a m ++ run ls (a + m) n
 unfolding run tab
@@ -23,10 +20,10 @@ run_add ls a zero n = rw (zero-add, add-zero)
 run_add ls a (suc m) n = let e : suc m + n ≡ suc (m + n) = omega arith in let g : suc a + m ≡ a + suc m = omega arith in rw (e, ← g) (ap (λ t. get_or ls a 0 ∷ t) (run_add ls (suc a) m n))
 
 -- a form's line, from its numbers as a list
-lined : (k : LineKind) (w c : ℕ) (ls : List ℕ) (used n : ℕ)
-    → form_by_number k w c (some (run ls used n)) ≡ pick (counted c n) (some (line_from (record { kind = k; word = w; count = n }) ls used)) none
+lined : (k : LineKind) (w : ℕ) (ls : List ℕ) (used n : ℕ)
+    → form_by_number k w (Some (run ls used n)) ≡ pick (fits (fields_of k w) (rest_of k w) n) (Some (line_from (record { kind = k; word = w; count = n }) ls used)) None
 unfolding form_by_number line_from args_of arg_at
-lined k w c ls used n =
+lined k w ls used n =
     rw (
       length_run ls used n,
       tab_same (arg_at (class_at k w) (λ i. get_or (run ls used n) i 0)) (arg_at (class_at k w) (λ i. get_or ls (used + i) 0)) 0 n
@@ -36,41 +33,36 @@ lined k w c ls used n =
 kept_less : (m n : ℕ) (u t : List ℕ) → n ≤ m → Kept m u t → Kept n u t
 kept_less m n u t h k = record { same = λ i l. k.same i (omega arith) }
 
-module _ (k : LineKind) (w c : ℕ) (s u t : List ℕ) (used first p : ℕ) (r : Listed) (a : Listing s p u t (used + first) r) where
-  pub numbered_broken : r ≡ Broken → FormAt (form_by_number k w c (onto (run u used first) (numbers_of (fields_from s p)))) s u t used Unformed
+module _ (k : LineKind) (w : ℕ) (s u t : List ℕ) (used first p : ℕ) where
+  pub numbered_broken : Listing s p u t (used + first) None → FormAt (form_by_number k w (onto (run u used first) (numbers_of (fields_from s p)))) s u t used None
   unfolding form_by_number onto
-  numbered_broken g =
+  numbered_broken a =
       record {
-        answer = rw (← a.answer, g);
+        answer = rw (← a.answer);
         half = tt;
         kept = kept_less (used + first) used u t (omega arith) a.kept;
       }
 
-  joined : (n : ℕ) → r ≡ Numbers n → onto (run u used first) (numbers_of (fields_from s p)) ≡ some (run t used (first + n))
-  unfolding onto
-  joined n g =
-      rw (← a.answer, g, run_add t used first n, run_kept u t (used + first) used first a.kept (omega arith))
+  module _ (n : ℕ) (a : Listing s p u t (used + first) (Some n)) (b : Bool) (q : b ≡ fits (fields_of k w) (rest_of k w) (first + n)) where
+    joined : onto (run u used first) (numbers_of (fields_from s p)) ≡ Some (run t used (first + n))
+    unfolding onto
+    joined = rw (← a.answer, run_add t used first n, run_kept u t (used + first) used first a.kept (omega arith))
 
-  pub numbered_not : (n : ℕ) (b : Bool) → r ≡ Numbers n → b ≡ counted c (first + n) → b ≡ false
-      → FormAt (form_by_number k w c (onto (run u used first) (numbers_of (fields_from s p)))) s u t used Unformed
-  numbered_not n b g q f =
-      record {
-        answer = rw (joined n g, lined k w c t used (first + n), ← q, f);
-        half = tt;
-        kept = kept_less (used + first) used u t (omega arith) a.kept;
-      }
+    pub numbered_not : b ≡ false → FormAt (form_by_number k w (onto (run u used first) (numbers_of (fields_from s p)))) s u t used None
+    numbered_not f =
+        record {
+          answer = rw (joined, lined k w t used (first + n), ← q, f);
+          half = tt;
+          kept = kept_less (used + first) used u t (omega arith) a.kept;
+        }
 
-  pub numbered_fits : (n : ℕ) (b : Bool) → r ≡ Numbers n → b ≡ counted c (first + n) → b ≡ true → first * 2 + 1 ≤ p → p ≤ length s + 1
-      → FormAt (form_by_number k w c (onto (run u used first) (numbers_of (fields_from s p)))) s u t used (Lined (record { kind = k; word = w; count = first + n }))
-  numbered_fits n b g q f l l' =
-      let m : n * 2 ≤ length s + 1 - p = (rw g at a).fewer in
-      record {
-        answer = rw (joined n g, lined k w c t used (first + n), ← q, f);
-        half = omega arith;
-        kept = kept_less (used + first) used u t (omega arith) a.kept;
-      }
+    pub numbered_fits : b ≡ true → first * 2 + 1 ≤ p → p ≤ length s + 1
+        → FormAt (form_by_number k w (onto (run u used first) (numbers_of (fields_from s p)))) s u t used (Some (record { kind = k; word = w; count = first + n }))
+    numbered_fits f l l' =
+        record {
+          answer = rw (joined, lined k w t used (first + n), ← q, f);
+          half = omega (arith, a.fewer);
+          kept = kept_less (used + first) used u t (omega arith) a.kept;
+        }
 
 pub ruleset numbered_laws = (numbered_broken, numbered_not, numbered_fits)
-
-pub numbers_half : (s : List ℕ) (p : ℕ) (u t : List ℕ) (used : ℕ) (r : Listed) (n : ℕ) → Listing s p u t used r → r ≡ Numbers n → n * 2 ≤ length s + 1 - p
-numbers_half s p u t used r n a g = (rw g at a).fewer

@@ -1,66 +1,45 @@
 -- Where each word of a kind of line stands among the words.
-use mathlib.Core.Path.{refl}
-use mathlib.Core.List.{◌∷◌, []}
-use Prim.Native.Nat.{ℕ, zero, suc}
+use mathlib.Core.Path.{◌≡◌, ap, ◌∙◌}
+use mathlib.Core.Bool.{Bool, true, false, ◌&&◌}
+use mathlib.Core.List.{List, ◌∷◌, []}
+use Rattle.std.specs.Prelude.{Option, None, Some}
+use Prim.Native.Nat.{ℕ, zero, suc, ◌+◌, ◌-◌, ◌<◌}
 use native.Mathlib.Omega.{arith}
-use lib.ListN.{get_or}
-use Rattle.spec.specs.Text.{bytes, split, same}
-use Rattle.fields.specs.Fields.{position, Tried}
-use Rattle.line_forms.specs.Classes.{node_words}
+use lib.Dec.{eqb}
+use lib.ListN.{length, get_or, take, drop}
+use borrow.Author.Tests.{eqb-true}
+use Rattle.spec.specs.Text.{split, comma}
+use Rattle.fields.specs.Fields.{position}
+use Rattle.fields.proofs.Lines.{both_true}
+use Rattle.line_forms.specs.Rules.{AllTried}
+use Rattle.line_forms.specs.declared.Words.{Words}
 
-pub kind_tried : (k : ℕ) → Tried (bytes "f,t,s,v,g,p,n") k (get_or (0 ∷ 2 ∷ 4 ∷ 6 ∷ 8 ∷ 10 ∷ 12 ∷ []) k 1) (get_or (1 ∷ 3 ∷ 5 ∷ 7 ∷ 9 ∷ 11 ∷ 13 ∷ []) k 0)
-unfolding position split same
-kind_tried zero = record { place = λ a b. refl }
-kind_tried (suc zero) = record { place = λ a b. refl }
-kind_tried (suc (suc zero)) = record { place = λ a b. refl }
-kind_tried (suc (suc (suc zero))) = record { place = λ a b. refl }
-kind_tried (suc (suc (suc (suc zero)))) = record { place = λ a b. refl }
-kind_tried (suc (suc (suc (suc (suc zero))))) = record { place = λ a b. refl }
-kind_tried (suc (suc (suc (suc (suc (suc zero)))))) = record { place = λ a b. refl }
-kind_tried (suc (suc (suc (suc (suc (suc (suc k))))))) = record { place = λ a b. absurd (omega arith) }
+unfoldable pub is_place : Option ℕ → ℕ → Bool
+is_place None k = false
+is_place (Some j) k = eqb j k
 
-pub type_tried : (k : ℕ) → Tried (bytes "unit,bool,bits,float,pointer,array,struct,tuple,opaque") k (get_or (0 ∷ 5 ∷ 10 ∷ 15 ∷ 21 ∷ 29 ∷ 35 ∷ 42 ∷ 48 ∷ []) k 1) (get_or (4 ∷ 9 ∷ 14 ∷ 20 ∷ 28 ∷ 34 ∷ 41 ∷ 47 ∷ 54 ∷ []) k 0)
-unfolding position split same
-type_tried zero = record { place = λ a b. refl }
-type_tried (suc zero) = record { place = λ a b. refl }
-type_tried (suc (suc zero)) = record { place = λ a b. refl }
-type_tried (suc (suc (suc zero))) = record { place = λ a b. refl }
-type_tried (suc (suc (suc (suc zero)))) = record { place = λ a b. refl }
-type_tried (suc (suc (suc (suc (suc zero))))) = record { place = λ a b. refl }
-type_tried (suc (suc (suc (suc (suc (suc zero)))))) = record { place = λ a b. refl }
-type_tried (suc (suc (suc (suc (suc (suc (suc zero))))))) = record { place = λ a b. refl }
-type_tried (suc (suc (suc (suc (suc (suc (suc (suc zero)))))))) = record { place = λ a b. refl }
-type_tried (suc (suc (suc (suc (suc (suc (suc (suc (suc k))))))))) = record { place = λ a b. absurd (omega arith) }
+-- the words of the spans are those from the k-th on
+unfoldable pub spans_right : List ℕ → ℕ → List (ℕ × ℕ) → Bool
+spans_right vs k [] = true
+spans_right vs k (p ∷ ps) = is_place (position (take (p.1 - p.0) (drop p.0 vs)) (split comma vs)) k && spans_right vs (suc k) ps
 
-pub place_tried : (k : ℕ) → Tried (bytes "variable,static,field,element,offset") k (get_or (0 ∷ 9 ∷ 16 ∷ 22 ∷ 30 ∷ []) k 1) (get_or (8 ∷ 15 ∷ 21 ∷ 29 ∷ 36 ∷ []) k 0)
-unfolding position split same
-place_tried zero = record { place = λ a b. refl }
-place_tried (suc zero) = record { place = λ a b. refl }
-place_tried (suc (suc zero)) = record { place = λ a b. refl }
-place_tried (suc (suc (suc zero))) = record { place = λ a b. refl }
-place_tried (suc (suc (suc (suc zero)))) = record { place = λ a b. refl }
-place_tried (suc (suc (suc (suc (suc k))))) = record { place = λ a b. absurd (omega arith) }
+place_is : (o : Option ℕ) (k : ℕ) → is_place o k ≡ true → o ≡ Some k
+unfolding is_place
+place_is None k e = cc
+place_is (Some j) k e = ap (λ (x : ℕ). Some x) (eqb-true j k e)
 
-pub node_tried : (k : ℕ) → Tried (bytes node_words) k (get_or (0 ∷ 5 ∷ 9 ∷ 13 ∷ 17 ∷ 22 ∷ 36 ∷ 45 ∷ 50 ∷ 56 ∷ 63 ∷ 70 ∷ 78 ∷ 86 ∷ 94 ∷ 101 ∷ 109 ∷ 116 ∷ 126 ∷ 134 ∷ []) k 1) (get_or (4 ∷ 8 ∷ 12 ∷ 16 ∷ 21 ∷ 35 ∷ 44 ∷ 49 ∷ 55 ∷ 62 ∷ 69 ∷ 77 ∷ 85 ∷ 93 ∷ 100 ∷ 108 ∷ 115 ∷ 125 ∷ 133 ∷ 140 ∷ []) k 0)
-unfolding position split same
-node_tried zero = record { place = λ a b. refl }
-node_tried (suc zero) = record { place = λ a b. refl }
-node_tried (suc (suc zero)) = record { place = λ a b. refl }
-node_tried (suc (suc (suc zero))) = record { place = λ a b. refl }
-node_tried (suc (suc (suc (suc zero)))) = record { place = λ a b. refl }
-node_tried (suc (suc (suc (suc (suc zero))))) = record { place = λ a b. refl }
-node_tried (suc (suc (suc (suc (suc (suc zero)))))) = record { place = λ a b. refl }
-node_tried (suc (suc (suc (suc (suc (suc (suc zero))))))) = record { place = λ a b. refl }
-node_tried (suc (suc (suc (suc (suc (suc (suc (suc zero)))))))) = record { place = λ a b. refl }
-node_tried (suc (suc (suc (suc (suc (suc (suc (suc (suc zero))))))))) = record { place = λ a b. refl }
-node_tried (suc (suc (suc (suc (suc (suc (suc (suc (suc (suc zero)))))))))) = record { place = λ a b. refl }
-node_tried (suc (suc (suc (suc (suc (suc (suc (suc (suc (suc (suc zero))))))))))) = record { place = λ a b. refl }
-node_tried (suc (suc (suc (suc (suc (suc (suc (suc (suc (suc (suc (suc zero)))))))))))) = record { place = λ a b. refl }
-node_tried (suc (suc (suc (suc (suc (suc (suc (suc (suc (suc (suc (suc (suc zero))))))))))))) = record { place = λ a b. refl }
-node_tried (suc (suc (suc (suc (suc (suc (suc (suc (suc (suc (suc (suc (suc (suc zero)))))))))))))) = record { place = λ a b. refl }
-node_tried (suc (suc (suc (suc (suc (suc (suc (suc (suc (suc (suc (suc (suc (suc (suc zero))))))))))))))) = record { place = λ a b. refl }
-node_tried (suc (suc (suc (suc (suc (suc (suc (suc (suc (suc (suc (suc (suc (suc (suc (suc zero)))))))))))))))) = record { place = λ a b. refl }
-node_tried (suc (suc (suc (suc (suc (suc (suc (suc (suc (suc (suc (suc (suc (suc (suc (suc (suc zero))))))))))))))))) = record { place = λ a b. refl }
-node_tried (suc (suc (suc (suc (suc (suc (suc (suc (suc (suc (suc (suc (suc (suc (suc (suc (suc (suc zero)))))))))))))))))) = record { place = λ a b. refl }
-node_tried (suc (suc (suc (suc (suc (suc (suc (suc (suc (suc (suc (suc (suc (suc (suc (suc (suc (suc (suc zero))))))))))))))))))) = record { place = λ a b. refl }
-node_tried (suc (suc (suc (suc (suc (suc (suc (suc (suc (suc (suc (suc (suc (suc (suc (suc (suc (suc (suc (suc k)))))))))))))))))))) = record { place = λ a b. absurd (omega arith) }
+right_at : (vs : List ℕ) (j : ℕ) (ps : List (ℕ × ℕ)) → spans_right vs j ps ≡ true → (i : ℕ) → i < length ps
+    → position (take ((get_or ps i (0, 0)).1 - (get_or ps i (0, 0)).0) (drop (get_or ps i (0, 0)).0 vs)) (split comma vs) ≡ Some (j + i)
+unfolding spans_right
+right_at vs j [] e i h = absurd (omega arith)
+right_at vs j (p ∷ ps) e zero h =
+    let t = both_true (is_place (position (take (p.1 - p.0) (drop p.0 vs)) (split comma vs)) j) (spans_right vs (suc j) ps) e in
+    let z : j ≡ j + 0 = omega arith in
+    place_is (position (take (p.1 - p.0) (drop p.0 vs)) (split comma vs)) j t.0 ∙ ap (λ (x : ℕ). Some x) z
+right_at vs j (p ∷ ps) e (suc i) h =
+    let t = both_true (is_place (position (take (p.1 - p.0) (drop p.0 vs)) (split comma vs)) j) (spans_right vs (suc j) ps) e in
+    let z : suc j + i ≡ j + suc i = omega arith in
+    right_at vs (suc j) ps t.1 i (omega arith) ∙ ap (λ (x : ℕ). Some x) z
+
+pub all_tried : (ws : Words) → spans_right ws.all.now 0 ws.spans.now ≡ true → AllTried ws
+all_tried ws e = record { at = λ k h. record { place = λ a b. let z : 0 + k ≡ k = omega arith in right_at ws.all.now 0 ws.spans.now e k h ∙ ap (λ (x : ℕ). Some x) z } }

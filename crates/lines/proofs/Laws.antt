@@ -2,25 +2,41 @@
 use mathlib.Core.Path.{◌≡◌, refl, sym, ap, ◌∙◌}
 use mathlib.Core.Bool.{Bool, true, false}
 use mathlib.Core.List.{List, ◌∷◌, []}
-use mathlib.Core.Option.{Option}
+use Rattle.std.specs.Prelude.{Option, None, Some}
+use Rattle.std.specs.List.{starts_with, slice_get}
+use lib.Dec.{eqb}
 use Prim.Native.Nat.{ℕ, suc, ◌+◌, ◌-◌, ◌≤◌, ◌<◌}
 use native.Mathlib.Omega.{arith}
-use lib.ListN.{length, take, drop, get_elem?, length-drop, length-take, drop_of_length-le}
+use lib.ListN.{length, take, drop, length-drop, drop_of_length-le}
 use lib.Seq.{length-take-le}
-use borrow.Author.Tests.{le-leb, lt-leb}
-use Rattle.spec.specs.Text.{split, line_feed}
+use borrow.Author.Tests.{le-leb, lt-leb, eq-eqb, ne_eqb, eqb-true, eqb-false}
+use Rattle.spec.specs.Text.{split, same, line_feed}
 use Rattle.fields.specs.Fields.{Found, index}
-use Rattle.fields.proofs.Tabs.{same_lengths}
+use Rattle.fields.proofs.Tabs.{same_bytes}
 use Rattle.fields.proofs.Marks.{split_from, split_some}
 use Rattle.lines.specs.Lines.{Line, placed, lines, begins, beginning, nth_line}
 use Rattle.lines.specs.Handed.{span_of}
-use Rattle.lines.specs.declared.Span.{Span}
 
 -- ---------------------------------------------------------------- `begins`
 
-pub begins_short : (w s : List ℕ) → length s < length w → false ≡ begins w s
+eqb_turned : (x y : ℕ) → eqb x y ≡ eqb y x
+eqb_turned x y = go (eqb x y) refl
+  where
+    go : (t : Bool) → eqb x y ≡ t → eqb x y ≡ eqb y x
+    go true e = e ∙ sym (eq-eqb y x (sym (eqb-true x y e)))
+    go false e = e ∙ sym (ne_eqb y x (λ q. eqb-false x y e (sym q)))
+
+same_turned : (xs ys : List ℕ) → same xs ys ≡ same ys xs
+unfolding same
+same_turned [] [] = refl
+same_turned [] (y ∷ ys) = refl
+same_turned (x ∷ xs) [] = refl
+same_turned (x ∷ xs) (y ∷ ys) = rw (eqb_turned x y, same_turned xs ys)
+
+-- the library's word for it
+pub begins_is : (w s : List ℕ) → starts_with eqb s w ≡ begins w s
 unfolding begins
-begins_short w s h = same_lengths (take (length w) s) w (λ e. omega (arith, length-take (length w) s))
+begins_is w s = same_bytes w (take (length w) s) ∙ same_turned w (take (length w) s)
 
 -- ---------------------------------------------------------------- from line to line
 
@@ -29,7 +45,7 @@ unfoldable pub lines_from : List ℕ → ℕ → List Line
 lines_from s p = placed p (split line_feed (drop p s))
 
 pub nth_from : List ℕ → List ℕ → ℕ → ℕ → Option Line
-nth_from s w p k = get_elem? (beginning w (lines_from s p)) k
+nth_from s w p k = slice_get (beginning w (lines_from s p)) k
 
 pub nth_start : (s w : List ℕ) (k : ℕ) → nth_line s w k ≡ nth_from s w 0 k
 unfolding nth_line lines lines_from nth_from
@@ -73,12 +89,12 @@ unfolding beginning
 beginning_other w l ls e = rw (beginning, e)
 
 module _ (o : Option Line) (s w : List ℕ) (p k : ℕ) (q : o ≡ nth_from s w p k) where
-  pub nth_past : length s ≤ p → Span.Nothing ≡ span_of o
+  pub nth_past : length s ≤ p → None ≡ span_of o
   unfolding nth_from beginning
   nth_past h = rw (q, from_past s p h)
 
   module _ (e : ℕ) (f : Found s p line_feed e) where
-    pub nth_unended : length s ≤ e → Span.Nothing ≡ span_of o
+    pub nth_unended : length s ≤ e → None ≡ span_of o
     unfolding nth_from beginning
     nth_unended h = rw (q, from_last s p e f h)
 
@@ -87,7 +103,7 @@ module _ (o : Option Line) (s w : List ℕ) (p k : ℕ) (q : o ≡ nth_from s w 
       unfolding piece
       so t = rw (from_next s p e f h) (beginning_so w (piece s p e) (lines_from s (e + 1)) (sym g ∙ t))
 
-      pub nth_here : b ≡ true → k ≡ 0 → Span.Line p e ≡ span_of o
+      pub nth_here : b ≡ true → k ≡ 0 → Some (p, e) ≡ span_of o
       unfolding nth_from piece
       nth_here t z = rw (q, z, so t, piece_end s p e f)
 
@@ -95,7 +111,7 @@ module _ (o : Option Line) (s w : List ℕ) (p k : ℕ) (q : o ≡ nth_from s w 
       unfolding nth_from
       nth_more t n =
           let m : k ≡ suc (k - 1) = omega arith in
-          q ∙ rw (so t) (ap (λ (j : ℕ). get_elem? (piece s p e ∷ beginning w (lines_from s (e + 1))) j) m)
+          q ∙ rw (so t) (ap (λ (j : ℕ). slice_get (piece s p e ∷ beginning w (lines_from s (e + 1))) j) m)
 
       pub nth_other : b ≡ false → o ≡ nth_from s w (e + 1) k
       unfolding nth_from piece

@@ -2,11 +2,11 @@
 use mathlib.Core.Path.{◌≡◌, refl, sym, ◌∙◌}
 use mathlib.Core.Bool.{Bool, true, false}
 use mathlib.Core.List.{List, ◌∷◌, []}
-use mathlib.Core.Option.{some}
+use Rattle.std.specs.Prelude.{Some, slice_get}
 use Prim.Native.Nat.{ℕ, zero, suc, ◌+◌, ◌-◌, ◌≤◌, ◌<◌}
 use native.Mathlib.Omega.{arith}
 use lib.Dec.{eqb, ltb}
-use lib.ListN.{length, take, drop, get_or, get_elem?, length-drop}
+use lib.ListN.{length, take, drop, get_or, length-drop}
 use lib.Seq.{get_or-drop}
 use borrow.Author.Tests.{ltb-true, ltb-false, eqb-true}
 use Rattle.spec.specs.Text.{line_feed}
@@ -76,12 +76,12 @@ stand_beginning s w (l ∷ ls) a = by (begins w l.bytes) refl (stand_beginning s
     by true e r = rw (beginning, e) (a.0, r)
     by false e r = rw (beginning, e) r
 
-stand_at : (s : List ℕ) (ls : List Line) (k : ℕ) (l : Line) → AllStand s ls → get_elem? ls k ≡ some l → Stands s l
-stand_at s [] k l a e = absurd (let z : ◌≡◌ {A = ℕ} 0 1 = cc in omega arith)
+stand_at : (s : List ℕ) (ls : List Line) (k : ℕ) (l : Line) → AllStand s ls → slice_get ls k ≡ Some l → Stands s l
+stand_at s [] k l a e = cc
 stand_at s (m ∷ ls) zero l a e = let q : m ≡ l = cc in rw q at a.0
 stand_at s (m ∷ ls) (suc k) l a e = stand_at s ls k l a.1 e
 
 -- the k-th line that begins with w stands in its text
-pub nth_stands : (s w : List ℕ) (k : ℕ) (l : Line) → nth_line s w k ≡ some l → Stands s l
+pub nth_stands : (s w : List ℕ) (k : ℕ) (l : Line) → nth_line s w k ≡ Some l → Stands s l
 unfolding nth_line lines lines_from
 nth_stands s w k l e = stand_at s (beginning w (lines s)) k l (stand_beginning s w (lines s) (stand_from (length s + 1) s 0 (omega arith) (omega arith))) e

@@ -1,20 +1,23 @@
 -- The code's answers as the definitions': where a line lies, and the part of a text that is handed back.
 use Rattle.std.specs.Prelude.{ℕ, ◌+◌, ◌≤◌, ◌≡◌, List, [], length, take, drop}
-use Rattle.std.proofs.Math.Option.{Option, none, some}
+use Rattle.std.specs.Prelude.{Option, None, Some, option_map, Result, Ok, Err, IfOk, IfErr}
 use Rattle.std.specs.Borrow.{Bor}
+use Rattle.answers.specs.declared.Refused.{Refused}
 use Rattle.lines.specs.Lines.{Line, Answer, of_ticket, of_listing, missing, number}
-use Rattle.lines.specs.declared.Span.{Span}
 use Rattle.lines.specs.declared.Place.{Place}
+use Rattle.lines.specs.declared.Refusal.{Refusal}
+
+abbrev pub refusal_number : Refusal → ℕ
+refusal_number Refusal.NoLine = 34
 
 -- from its first byte to the one behind its last, its line feed
-abbrev pub span_of : Option Line → Span
-span_of none = Span.Nothing
-span_of (some l) = Span.Line l.from (l.from + length l.bytes)
+abbrev pub span_of : Option Line → Option (ℕ × ℕ)
+span_of = option_map (λ l. (l.from, l.from + length l.bytes))
 
-abbrev pub place_of : Answer → Place
-place_of (of_ticket l) = Place.Ticket l.from (l.from + length l.bytes)
-place_of (of_listing l) = Place.Listing l.from (l.from + length l.bytes)
-place_of missing = Place.Missing
+abbrev pub place_of : Answer → Option Place
+place_of (of_ticket l) = Some (Place.Ticket l.from (l.from + length l.bytes))
+place_of (of_listing l) = Some (Place.Listing l.from (l.from + length l.bytes))
+place_of missing = None
 
 -- r is a part of the text s, in the same memory: the bytes of the line l, at its place
 pub record Part (s r : Bor (List ℕ)) (l : Line) : Type 0 where
@@ -30,8 +33,13 @@ part_of ticket listing r (of_ticket l) = Part ticket r l
 part_of ticket listing r (of_listing l) = Part listing r l
 part_of ticket listing r missing = Part ticket r (record { from = 0; bytes = [] })
 
--- the answer a: its part, the refusal's number, and line 0
-pub record Handed (a : Answer) (ticket listing r : Bor (List ℕ)) (n l : ℕ) : Type 0 where
-  pub part : part_of ticket listing r a
-  pub number : n ≡ number a
-  pub line : l ≡ 0
+-- the refusal's number; 0 where a part is handed back
+abbrev pub told : Result (Bor (List ℕ)) (Refused Refusal) → ℕ
+told (Ok r) = 0
+told (Err e) = refusal_number e.refusal
+
+-- the answer a: its part, or the refusal's number for line 0
+pub record Handed (a : Answer) (ticket listing : Bor (List ℕ)) (r : Result (Bor (List ℕ)) (Refused Refusal)) : Type 0 where
+  pub part : IfOk r (λ x. part_of ticket listing x a)
+  pub number : told r ≡ number a
+  pub line : IfErr r (λ e. e.line ≡ 0)

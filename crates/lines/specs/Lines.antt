@@ -1,7 +1,6 @@
 -- The line of storage k: the ticket's k-th that begins `s,`, else the listing's first that begins `storage,k,` (change request E13).
-use Rattle.std.specs.Prelude.{ℕ, ◌+◌, Bool, true, false, List, ◌∷◌, ◌++◌, [], length, take}
-use Rattle.std.proofs.Math.Option.{Option, none, some}
-use Rattle.std.proofs.Math.ListN.{get_elem?}
+use Rattle.std.specs.Prelude.{ℕ, ◌+◌, Bool, true, false, List, ◌∷◌, ◌++◌, [], length, take, slice_get}
+use Rattle.std.specs.Prelude.{Option, None, Some}
 use Rattle.spec.specs.Text as text
 
 -- a line of a text: where it starts, and its bytes without the line feed
@@ -30,7 +29,7 @@ beginning w (l ∷ ls) = elim (begins w l.bytes) [ true ↦ l ∷ beginning w ls
 
 -- the k-th line that begins with w, counted from 0
 unfoldable pub nth_line : List ℕ → List ℕ → ℕ → Option Line
-nth_line s w k = get_elem? (beginning w (lines s)) k
+nth_line s w k = slice_get (beginning w (lines s)) k
 
 -- `storage,k,`
 unfoldable pub storage_start : ℕ → List ℕ
@@ -44,9 +43,9 @@ pub data Answer : Type 0 where
 
 -- the ticket is asked first
 abbrev pub chosen : Option Line → Option Line → Answer
-chosen (some l) o = of_ticket l
-chosen none (some l) = of_listing l
-chosen none none = missing
+chosen (Some l) o = of_ticket l
+chosen None (Some l) = of_listing l
+chosen None None = missing
 
 unfoldable pub storage_line : List ℕ → List ℕ → ℕ → Answer
 storage_line ticket listing k = chosen (nth_line ticket (text.bytes "s,") k) (nth_line listing (storage_start k) 0)

@@ -1,23 +1,22 @@
 -- What a case expects: where the line stands, and the part that is handed back. Text 0 is the ticket, 1 the listing, any other neither.
-use Rattle.std.specs.Prelude.{ℕ, ◌-◌, ◌≡◌, Bool, true, ◌&&◌, List, [], eqb, take, drop}
-use Rattle.tables.specs.Tables.{pick}
+use Rattle.std.specs.Prelude.{ℕ, ◌-◌, ◌≡◌, Bool, true, ◌&&◌, List, [], eqb, take, drop, if◌then◌else◌, Option, None, Some}
 use Rattle.lines.specs.Lines.{Answer, of_ticket, of_listing, missing, number, storage_line}
 use Rattle.lines.specs.Handed.{place_of}
 use Rattle.lines.specs.declared.Place.{Place}
 
-abbrev pub stands : ℕ → ℕ → ℕ → Place → Bool
-stands text from to (Place.Ticket a b) = eqb text 0 && (eqb a from && eqb b to)
-stands text from to (Place.Listing a b) = eqb text 1 && (eqb a from && eqb b to)
-stands text from to Place.Missing = eqb text 2
+abbrev pub stands : ℕ → ℕ → ℕ → Option Place → Bool
+stands text from to (Some (Place.Ticket a b)) = eqb text 0 && (eqb a from && eqb b to)
+stands text from to (Some (Place.Listing a b)) = eqb text 1 && (eqb a from && eqb b to)
+stands text from to None = eqb text 2
 
 abbrev pub between : ℕ → ℕ → List ℕ → List ℕ
 between from to s = take (to - from) (drop from s)
 
 abbrev pub part : List ℕ → List ℕ → ℕ → ℕ → ℕ → List ℕ
-part ticket listing text from to = pick (eqb text 0) (between from to ticket) (pick (eqb text 1) (between from to listing) [])
+part ticket listing text from to = if eqb text 0 then between from to ticket else (if eqb text 1 then between from to listing else [])
 
 abbrev pub refusal : ℕ → ℕ
-refusal text = pick (eqb text 0) 0 (pick (eqb text 1) 0 34)
+refusal text = if eqb text 0 then 0 else (if eqb text 1 then 0 else 34)
 
 abbrev pub bytes_of : Answer → List ℕ
 bytes_of (of_ticket l) = l.bytes

@@ -8,7 +8,7 @@ ghost use Rattle.lines.specs.Lines.{storage_line};
 ghost use Rattle.lines.specs.Handed.{place_of};
 ghost use Rattle.lines_tests.specs.Asked.{stands, between, part, refusal as refusal_of, Gives, Holds};
 
-use cases::Tally;
+use answers::Numbered;
 use lines::Place;
 use std::io::{self, Read};
 
@@ -23,48 +23,44 @@ fn placed(ticket: &[u8], listing: &[u8], k: u64, text: u64, from: u64, to: u64) 
     ensures { result ≡ stands text from to (place_of (storage_line ticket.now listing.now k)) }
 {
     match lines::storage_place(ticket, listing, k) {
-        Place::Ticket(a, b) => text == 0 && equal(a as u64, b as u64, from, to),
-        Place::Listing(a, b) => text == 1 && equal(a as u64, b as u64, from, to),
-        Place::Missing => text == 2,
+        Some(Place::Ticket(a, b)) => text == 0 && equal(a as u64, b as u64, from, to),
+        Some(Place::Listing(a, b)) => text == 1 && equal(a as u64, b as u64, from, to),
+        None => text == 2,
     }
 }
 
-// The part handed back has these bytes, and both numbers are written.
+// The part handed back has these bytes, and the refusal its number, for line 0.
 fn handed<'a>(ticket: &'a [u8], listing: &'a [u8], k: u64, bytes: &[u8], refusal: u64) -> bool
     ensures { Gives (storage_line ticket.now listing.now k) bytes.now refusal result }
 {
-    let mut number: u64 = 7;
-    let mut line: u64 = 7;
-    let got = lines::storage_line(ticket, listing, k, &mut number, &mut line);
-    fields::same(got, bytes) && equal(number, line, refusal, 0)
+    if !fields::same(lines::storage_part(ticket, listing, k), bytes) {
+        return false;
+    }
+    match lines::storage_line(ticket, listing, k) {
+        Ok(part) => refusal == 0 && fields::same(part, bytes),
+        Err(e) => equal(e.refusal.number(), e.line, refusal, 0),
+    }
 }
 
 // The part is what stands in s at the expected place.
 fn handed_of<'a>(ticket: &'a [u8], listing: &'a [u8], k: u64, s: &[u8], from: u64, to: u64) -> bool
     ensures { Gives (storage_line ticket.now listing.now k) (between from to s.now) 0 result }
 {
-    let a = from as usize;
-    let b = to as usize;
-    if b < a {
-        return false;
+    match s.get(from as usize..to as usize) {
+        Some(part) => handed(ticket, listing, k, part, 0),
+        None => false,
     }
-    if s.len() < b {
-        return false;
-    }
-    handed(ticket, listing, k, &s[a..b], 0)
 }
 
 // The text that holds the line is named by its number.
 fn handed_in<'a>(ticket: &'a [u8], listing: &'a [u8], k: u64, text: u64, from: u64, to: u64) -> bool
     ensures { Gives (storage_line ticket.now listing.now k) (part ticket.now listing.now text from to) (refusal_of text) result }
 {
-    if text == 0 {
-        return handed_of(ticket, listing, k, ticket, from, to);
+    match text {
+        0 => handed_of(ticket, listing, k, ticket, from, to),
+        1 => handed_of(ticket, listing, k, listing, from, to),
+        _ => handed(ticket, listing, k, b"", 34),
     }
-    if text == 1 {
-        return handed_of(ticket, listing, k, listing, from, to);
-    }
-    handed(ticket, listing, k, b"", 34)
 }
 
 fn holds<'a>(ticket: &'a [u8], listing: &'a [u8], k: u64, text: u64, from: u64, to: u64) -> bool
@@ -73,38 +69,30 @@ fn holds<'a>(ticket: &'a [u8], listing: &'a [u8], k: u64, text: u64, from: u64, 
     placed(ticket, listing, k, text, from, to) && handed_in(ticket, listing, k, text, from, to)
 }
 
-// The next case, behind its head.
-fn replay<R: Read>(reader: &mut R, numbers: &[u64; 64]) -> bool {
-    let mut ticket = [0u8; 65536];
-    let mut listing = [0u8; 65536];
-    let a = numbers[0] as usize;
-    let b = numbers[1] as usize;
-    if !cases::read(reader, &mut ticket, a) {
-        return false;
+// Whether the next case holds.
+fn replay<R: Read>(reader: &mut R) -> Option<bool> {
+    let Ok(head) = cases::line_head::<6, R>(reader)? else {
+        return Some(false);
+    };
+    let [a, b, k, text, from, to] = head;
+    let mut ticket = [0; 65536];
+    let mut listing = [0; 65536];
+    let a = a as usize;
+    let b = b as usize;
+    if !cases::read(reader, &mut ticket, a) || !cases::read(reader, &mut listing, b) {
+        return Some(false);
     }
-    if !cases::read(reader, &mut listing, b) {
-        return false;
-    }
-    holds(
+    Some(holds(
         cases::first(&ticket, a),
         cases::first(&listing, b),
-        numbers[2],
-        numbers[3],
-        numbers[4],
-        numbers[5],
-    )
+        k,
+        text,
+        from,
+        to,
+    ))
 }
 
 fn main(rt: HostRuntime) -> io::Result<()> {
-    let mut reader = rt.stdin();
-    let mut numbers = [0u64; 64];
-    let mut t = Tally { ran: 0, failed: 0 };
-    while t.ran < 1000000 {
-        let h = cases::line_head(&mut reader, 6, &mut numbers);
-        if h.over {
-            break;
-        }
-        t = cases::counted(t, h.right && replay(&mut reader, &numbers));
-    }
-    cases::print(&rt, t, b"cases")
+    let tally = cases::run(&mut rt.stdin(), replay);
+    tally.print(&rt, "cases")
 }

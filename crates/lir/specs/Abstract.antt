@@ -1,12 +1,12 @@
 -- What the code's operands, instructions and storages stand for.
 use Rattle.std.specs.Prelude.{ℕ, zero, suc, ◌+◌, ◌/◌, ◌%◌, ◌^◌, ◌≤◌, Bool, true, false, List, ◌∷◌, [], ltb}
-use Rattle.std.proofs.Math.Option.{Option, none, some}
+use Rattle.std.specs.Prelude.{Option, None, Some}
 use Rattle.spec.specs.Lir as lir
 use Rattle.spec.specs.Allocation.{bytes_from}
 use Rattle.lir.specs.declared.ByteStorage.{ByteStorage}
 use Rattle.lir.specs.declared.ByteOperand.{ByteOperand}
 use Rattle.lir.specs.declared.BitOperand.{BitOperand}
-use Rattle.lir.specs.declared.Carry.{Carry}
+use Rattle.lir.specs.declared.StorageId.{StorageId}
 use Rattle.lir.specs.declared.Source.{Source}
 use Rattle.lir.specs.declared.Bytes.{Bytes}
 use Rattle.lir.specs.declared.Destinations.{Destinations}
@@ -44,9 +44,9 @@ abbrev pub bit_operand_of : BitOperand → lir.BitOperand
 bit_operand_of (BitOperand.Constant n) = lir.constant n
 bit_operand_of (BitOperand.Storage s) = lir.stored_bit s.0
 
-abbrev pub carry_of : Carry → Option ℕ
-carry_of Carry.Absent = none
-carry_of (Carry.Storage s) = some s.0
+abbrev pub carry_of : Option StorageId → Option ℕ
+carry_of None = None
+carry_of (Some s) = Some s.0
 
 abbrev pub source_byte : Source → ℕ → lir.ByteOperand
 source_byte (Source.Constant n) i = lir.immediate (n / 256 ^ i % 256)

@@ -1,4 +1,5 @@
 pub mod Abstract
 pub mod Sound
-pub mod PutFields
+pub mod Tab
+pub mod Fields
 pub mod Lines

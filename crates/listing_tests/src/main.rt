@@ -9,8 +9,7 @@ ghost use Rattle.spec.specs.Answer.{answer};
 ghost use Rattle.cases.specs.Cases.{Right};
 ghost use Rattle.listing_tests.specs.Asked.{Roomy};
 
-use answers::Answer;
-use cases::Tally;
+use answers::Numbered;
 use std::io::{self, Read};
 
 fn answered(ticket: &[u8], expected: &[u8], buffer: &mut [u8]) -> bool
@@ -18,8 +17,8 @@ fn answered(ticket: &[u8], expected: &[u8], buffer: &mut [u8]) -> bool
 {
     cases::fill(buffer);
     match compiler::lower(ticket, buffer) {
-        Answer::Refused(number, line) => cases::refused(number, line, expected, buffer),
-        Answer::Accepted(n) => cases::accepted(n, expected, buffer),
+        Ok(n) => cases::accepted(n, expected, buffer),
+        Err(e) => cases::refused(e.refusal.number(), e.line, expected, buffer),
     }
 }
 
@@ -52,43 +51,33 @@ fn holds(ticket: &[u8], expected: &[u8], buffer: &mut [u8]) -> bool
 {
     cases::fill(buffer);
     match compiler::lower(ticket, buffer) {
-        Answer::Refused(number, line) => cases::refused(number, line, expected, buffer),
-        Answer::Accepted(n) => {
-            cases::accepted(n, expected, buffer) && roomy(ticket, expected, buffer)
-        }
+        Ok(n) => cases::accepted(n, expected, buffer) && roomy(ticket, expected, buffer),
+        Err(e) => cases::refused(e.refusal.number(), e.line, expected, buffer),
     }
 }
 
 // The next ticket, behind its head.
-fn replay<R: Read>(reader: &mut R, numbers: &[u64; 64]) -> bool {
-    let mut ticket = [0u8; 65540];
-    let mut expected = [0u8; 65536];
-    let mut buffer = [0u8; 65536];
-    let a = numbers[0] as usize;
-    let b = numbers[1] as usize;
-    if !cases::read(reader, &mut ticket, a) {
-        return false;
+fn replay<R: Read>(reader: &mut R) -> Option<bool> {
+    let Ok(head) = cases::block_head::<2, R>(reader, 16)? else {
+        return Some(false);
+    };
+    let [a, b] = head;
+    let mut ticket = [0; 65540];
+    let mut expected = [0; 65536];
+    let mut buffer = [0; 65536];
+    let a = a as usize;
+    let b = b as usize;
+    if !cases::read(reader, &mut ticket, a) || !cases::read(reader, &mut expected, b) {
+        return Some(false);
     }
-    if !cases::read(reader, &mut expected, b) {
-        return false;
-    }
-    holds(
+    Some(holds(
         cases::first(&ticket, a),
         cases::first(&expected, b),
         &mut buffer,
-    )
+    ))
 }
 
 fn main(rt: HostRuntime) -> io::Result<()> {
-    let mut reader = rt.stdin();
-    let mut numbers = [0u64; 64];
-    let mut t = Tally { ran: 0, failed: 0 };
-    while t.ran < 1000000 {
-        let h = cases::block_head(&mut reader, 16, 2, &mut numbers);
-        if h.over {
-            break;
-        }
-        t = cases::counted(t, h.right && replay(&mut reader, &numbers));
-    }
-    cases::print(&rt, t, b"tickets")
+    let tally = cases::run(&mut rt.stdin(), replay);
+    tally.print(&rt, "tickets")
 }

@@ -5,7 +5,6 @@
 
 ghost use Rattle.std.specs.Prelude.{◌+◌, ◌≤◌, length};
 
-use answers::Answer;
 use std::io::{self, Read};
 
 // How many bytes were read, and the error if a read failed.
@@ -53,20 +52,12 @@ fn read_text<R: Read>(reader: &mut R, text: &mut [u8]) -> Got
     }
 }
 
-fn write_refusal(rt: &impl Print, number: u64, line: u64) -> io::Result<()> {
-    println!(rt; "refused,{number},{line}")
-}
-
-fn write_listing(rt: &impl Print, listing: &[u8]) -> io::Result<()> {
-    rt.write_all(listing)
-}
-
 // A text over 65,536 bytes is refused by its length alone.
 fn respond(rt: &impl Print, ticket: &[u8]) -> io::Result<()> {
     let mut buffer = [0u8; 65536];
     match compiler::lower(ticket, &mut buffer) {
-        Answer::Refused(number, line) => write_refusal(rt, number, line),
-        Answer::Accepted(n) => write_listing(rt, &buffer[..n]),
+        Ok(end) => rt.write_all(&buffer[..end]),
+        Err(refused) => println!(rt; "{refused}"),
     }
 }
 

@@ -1,7 +1,5 @@
-pub mod FormLaws
 pub mod Sums
-pub mod RoomLaws
 pub mod StepLaws
-pub mod CycleLaws
+pub mod RoomLaws
 pub mod ListLaws
 pub mod NodeLaws

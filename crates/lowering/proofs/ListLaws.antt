@@ -1,78 +1,85 @@
 -- An aggregate's parts one after another: what is lowered of them, and what is left to lower.
-use Prim.Native.Nat.{ℕ, ◌+◌, ◌-◌, ◌≤◌}
-use mathlib.Core.List.{List}
-use mathlib.Core.Path.{◌≡◌, refl, ◌∙◌}
-use native.Mathlib.Omega.{arith}
-use lib.ListN.{length, get_or}
-use lib.Seq.{sets, length-sets}
-use Rattle.spec.specs.Ticket.{Tables, expr_at, nowhere}
-use Rattle.spec.specs.Readable.{TypesRight}
+use Rattle.std.specs.Prelude.{◌≡◌, refl, List, ℕ, ◌+◌, ◌-◌, ◌≤◌, ◌<◌, length, get_or, Result, Ok, Err}
+use Rattle.std.proofs.Common.{arith}
+use Rattle.std.proofs.Math.Seq.{length-sets}
+use Rattle.std.proofs.lemmas.List.Edits.{sets}
+use Rattle.answers.specs.declared.Refusal.{Refusal}
+use Rattle.answers.specs.declared.Refused.{Refused}
+use Rattle.spec.specs.Ticket as ticket
+use Rattle.spec.specs.Ticket.{expr_at, nowhere}
+use Rattle.tables.specs.declared.lookups.Tables.{Tables}
+use Rattle.tables.specs.Ticket.{ticket_of}
+use Rattle.spec.specs.Monad.{bind_to, ◌>>=◌}
+use Rattle.spec.specs.Monad as monad
 use Rattle.spec.specs.Lower.{lower_expression, lower_expressions}
-use Rattle.values.specs.declared.State.{State}
+use Rattle.tables.proofs.Laws.{run_here, run_none}
+use Rattle.values.specs.declared.Lowering.{Lowering}
 use Rattle.values.specs.declared.Value.{Value as Val}
-use Rattle.values.specs.declared.Lowered.{Lowered}
-use Rattle.values.specs.declared.Listed.{Listed}
-use Rattle.values.specs.Left.{Bufs, counters_in, at_top, value_words, MeetsValue, MeetsList, DoneValue}
-use Rattle.values.specs.Laws.{Placed, with_stack}
-use Rattle.reads.proofs.PartLaws.{placed_behind}
-use Rattle.lowering.specs.Forms.{kids}
+use Rattle.values.specs.Left.{counters_in, at_top, with_stack, value_words, MeetsValue, MeetsList, shown_done, shown_refused, stops}
+use Rattle.values.specs.Laws.{cons_to, list_more}
+use Rattle.reads.proofs.Laws.{none_meets}
+use Rattle.lowering.specs.Nodes.{kids}
 use Rattle.lowering.specs.Rooms.{TreeRoom, ListRoom}
-use Rattle.lowering.proofs.RoomLaws.{head_fits, first_room, rest_room}
-use Rattle.lowering.proofs.CycleLaws.{no_parts, part_refused, part_meets}
+use Rattle.lowering.proofs.RoomLaws.{head_fits, part_room, parts_room}
 
--- ---------------------------------------------------------------- the parts that are left
+-- of the n parts, those from i on are left: what these leave, the whole leaves
+pub record Rest (t : Tables) (d a n : ℕ) (l₀ : Lowering) (i : ℕ) (l : Lowering) : Type 0 where
+  pub above : l₀.top ≤ l.top
+  pub room : ListRoom (ticket_of t) (kids (ticket_of t) t.lists.now d (a + i) (n - i)) l
+  pub whole : {l' : Lowering} {r : Result (Unit {0}) (Refused Refusal)} → MeetsList (n - i) l (lower_expressions (ticket_of t) (kids (ticket_of t) t.lists.now d (a + i) (n - i)) nowhere (counters_in l)) l' r
+      → MeetsList n l₀ (lower_expressions (ticket_of t) (kids (ticket_of t) t.lists.now d a n) nowhere (counters_in l₀)) l' r
 
--- of the n parts from i on, begun at b and s, the m from j on are left: what these leave, the whole leaves
-pub record Rest (T : Tables) (lists : List ℕ) (d a i n : ℕ) (b : Bufs) (s : State) (j m : ℕ) (b1 : Bufs) (s1 : State) : Type 0 where
-  pub room : ListRoom T (kids T lists d (a + j) m) s1 b1.stack
-  pub few : j + m ≤ 4611686018427387904
-  pub placed : Placed b1 s1
-  pub code : length b1.code ≡ length b.code
-  pub store : length b1.store ≡ length b.store
-  pub narrowed : length b1.narrowed ≡ length b.narrowed
-  pub stack : length b1.stack ≡ length b.stack
-  pub whole : {b2 : Bufs} {r : Listed} → MeetsList m b1 s1 (lower_expressions T (kids T lists d (a + j) m) nowhere (counters_in s1)) b2 r
-      → MeetsList n b s (lower_expressions T (kids T lists d (a + i) n) nowhere (counters_in s)) b2 r
+module _ (T : ticket.Tables) (lists : List ℕ) (d a i n : ℕ) where
+  list_here : (c : monad.Counters) → (n ≡ 0 → ⊥) → lower_expressions T (kids T lists d (a + i) n) nowhere c
+      ≡ bind_to (λ v g e. bind_to (cons_to v) g (lower_expressions T (kids T lists d (a + (i + 1)) (n - 1)) g e)) nowhere (lower_expression T (expr_at d T (get_or lists (a + i) 0)) nowhere c)
+  unfolding lower_expression ◌>>=◌
+  list_here c h = let e : a + (i + 1) ≡ a + i + 1 = omega arith in rw (e, run_here lists (a + i) n h)
 
 -- before the first part
-pub rest_all : {T : Tables} {lists : List ℕ} {d a i n : ℕ} {b : Bufs} {s : State} → ListRoom T (kids T lists d (a + i) n) s b.stack → i + n ≤ 4611686018427387904 → Placed b s
-    → Rest T lists d a i n b s i n b s
-rest_all q f p = record { room = q; few = f; placed = p; code = refl; store = refl; narrowed = refl; stack = refl; whole = λ x. x }
+pub rest_all : {t : Tables} {d a n : ℕ} {l : Lowering} → ListRoom (ticket_of t) (kids (ticket_of t) t.lists.now d (a + 0) (n - 0)) l → Rest t d a n l 0 l
+rest_all {a = a} {n} q =
+    let e : a + 0 ≡ a = omega arith in
+    let g : n - 0 ≡ n = omega arith in
+    record { above = omega arith; room = q; whole = λ x. rw (e, g) at x }
 
-module _ {T : Tables} {lists : List ℕ} {d a i n : ℕ} {b : Bufs} {s : State} {j m : ℕ} {b1 : Bufs} {s1 : State} (g : Rest T lists d a i n b s j m b1 s1) where
+module _ {t : Tables} {d a n : ℕ} {l₀ : Lowering} {i : ℕ} {l : Lowering} (g : Rest t d a n l₀ i l) where
+  abbrev T : ticket.Tables
+  T = ticket_of t
+
+  abbrev lists : List ℕ
+  lists = t.lists.now
+
   -- behind the last part
-  pub rest_none : m ≡ 0 → MeetsList n b s (lower_expressions T (kids T lists d (a + i) n) nowhere (counters_in s)) b1 (Listed.Done s1)
-  rest_none e = g.whole (no_parts T lists d a j m e g.placed)
+  pub rest_none : n ≤ i → MeetsList n l₀ (lower_expressions T (kids T lists d a n) nowhere (counters_in l₀)) l (Ok tt)
+  unfolding lower_expression
+  rest_none e = let z : n - i ≡ 0 = omega arith in g.whole (rw (run_none lists (a + i) (n - i) z) (none_meets l (n - i) z))
 
-  module _ (h : m ≡ 0 → ⊥) where
+  module _ (k : i < n) where
+    some : n - i ≡ 0 → ⊥
+    some e = omega arith
+
     -- the next part's head has its place
-    pub rest_fits : TypesRight T → s1.top + 8 ≤ length b1.stack
-    rest_fits R = head_fits T R lists d a j m h g.room
+    pub rest_fits : l.top + 8 ≤ length l.stack.now
+    rest_fits = head_fits t d a i (n - i) some g.room
 
     -- and the part its room
-    pub rest_first : TypesRight T → TreeRoom T (expr_at d T (get_or lists (a + j) 0)) (at_top s1 (s1.top + 8)) b1.stack
-    rest_first R = first_room T R lists d a j m h g.room
+    pub rest_first : TreeRoom T (expr_at d T (get_or lists (a + i) 0)) (at_top l (l.top + 8))
+    rest_first = part_room t d a i (n - i) some g.room
 
     -- a part that is refused
-    pub rest_refused : {b2 b3 : Bufs} {r : Lowered} {x y : ℕ} → MeetsValue b1 (at_top s1 (s1.top + 8)) (lower_expression T (expr_at d T (get_or lists (a + j) 0)) nowhere (counters_in s1)) b2 r → r ≡ Lowered.Refused x y
-        → MeetsList n b s (lower_expressions T (kids T lists d (a + i) n) nowhere (counters_in s)) b3 (Listed.Refused x y)
-    rest_refused v q = g.whole (part_refused T lists d a j m h v q)
+    pub rest_refused : {l' : Lowering} {x : Refused Refusal}
+        → MeetsValue (at_top l (l.top + 8)) (lower_expression T (expr_at d T (get_or lists (a + i) 0)) nowhere (counters_in l)) l' (Err x)
+        → MeetsList n l₀ (lower_expressions T (kids T lists d a n) nowhere (counters_in l₀)) l' (Err x)
+    rest_refused v = g.whole (rw (list_here T lists d a i (n - i) (counters_in l) some, shown_refused v refl) (stops refl))
 
     -- a part that is lowered, its head's record stored below what it left
-    pub rest_more : (R : TypesRight T) {b2 : Bufs} {x : Val} {s2 : State} {stack2 : List ℕ}
-        → DoneValue b1 (at_top s1 (s1.top + 8)) (lower_expression T (expr_at d T (get_or lists (a + j) 0)) nowhere (counters_in s1)) b2 x s2 → stack2 ≡ sets b2.stack s1.top (value_words x)
-        → length b2.code ≡ length b1.code → length b2.store ≡ length b1.store → length b2.narrowed ≡ length b1.narrowed
-        → Rest T lists d a i n b s (j + 1) (m - 1) (with_stack b2 stack2) s2
-    rest_more R {b2} {x} {s2} {stack2} v e lc ls ln =
-        let k = v.left in
-        let l = length-sets b2.stack s1.top (value_words x) in
-        rw e (record {
-          room = rest_room T R lists d a j m h g.room v l;
-          few = omega (arith, g.few, h);
-          placed = placed_behind k;
-          code = lc ∙ g.code;
-          store = ls ∙ g.store;
-          narrowed = ln ∙ g.narrowed;
-          stack = l ∙ k.long ∙ g.stack;
-          whole = λ y. g.whole (part_meets T lists d a j m h v (rest_fits R) y);
-        })
+    pub rest_more : {l1 : Lowering} {x : Val} → MeetsValue (at_top l (l.top + 8)) (lower_expression T (expr_at d T (get_or lists (a + i) 0)) nowhere (counters_in l)) l1 (Ok x)
+        → Rest t d a n l₀ (i + 1) (with_stack l1 (sets l1.stack.now l.top (value_words x)))
+    rest_more {l1} {x} v =
+        let u = shown_done v refl in
+        let e : n - (i + 1) ≡ n - i - 1 = omega arith in
+        record {
+          above = omega (arith, g.above, u.left.topped);
+          room = rw e (parts_room t d a i (n - i) some g.room u (length-sets l1.stack.now l.top (value_words x)));
+          whole = λ w. g.whole (rw (list_here T lists d a i (n - i) (counters_in l) some, u.is) (list_more (n - i) nowhere u rest_fits (omega arith) (rw e at w)));
+        }

@@ -1,41 +1,75 @@
 -- A node's own step behind its operands.
-use Prim.Native.Nat.{ℕ, ◌≤◌}
-use mathlib.Core.Bool.{Bool, true, false}
-use mathlib.Core.List.{List, append-nil}
-use mathlib.Core.Path.{◌≡◌, refl, sym, ap, subst, ◌∙◌}
-use lib.Dec.{eqb}
-use lib.ListN.{length}
-use Rattle.spec.specs.Hir.{At}
+use Rattle.std.specs.Prelude.{◌≡◌, refl, Bool, true, false, List, ◌∷◌, [], ℕ, ◌≤◌, length, eqb, Option, Result, Ok, Err}
+use Rattle.std.proofs.Common.{ap, subst, ◌∙◌, append-nil}
+use Rattle.answers.specs.declared.Refusal.{Refusal}
+use Rattle.answers.specs.declared.Refused.{Refused}
+use Rattle.spec.specs.Hir.{At, Expr, integer_unary, integer_binary, compare, convert, select, pointer_offset, extract_element, insert_element}
 use Rattle.spec.specs.Hir as hir
-use Rattle.spec.specs.Ticket.{Tables, integer_unary_op, integer_binary_op, compare_op, conversion_op}
-use Rattle.spec.specs.Lir.{Value, value, unit, bit_value, bytes_value, aggregate, BitOperand}
-use Rattle.spec.specs.Monad.{Outcome, done, nothing, prepend, bind_to, ◌>>◌, require}
+use Rattle.spec.specs.Ticket.{Tables, nowhere}
+use Rattle.spec.specs.Lir.{Value, value, unit, bit_value, bytes_value, aggregate}
+use Rattle.spec.specs.Monad.{Out, Outcome, done, refused, nothing, ◌⊕◌, prepend, bind_to, Lower, own, ◌>>=◌, ◌>>◌, require}
 use Rattle.spec.specs.Monad as monad
 use Rattle.spec.specs.Operands.{value_repr, value_bytes, value_bit}
 use Rattle.spec.specs.Operators.{ConversionForm, resizing, extending_sign, reinterpreting, from_boolean, to_boolean, of_float, conversion_form}
+use Rattle.tables.specs.declared.lookups.Tables as code
+use Rattle.tables.specs.Tables.{size_at}
+use Rattle.tables.specs.Ticket.{ticket_of}
+use Rattle.tables.proofs.Laws.{size_here}
 use Rattle.spec.specs.Arithmetic.{lower_integer_unary, lower_integer_binary}
 use Rattle.spec.specs.Conversions.{not_zero, value_as_bit, resized, sign_extended, boolean_to_integer, integer_to_bool, reinterpreted, lower_compare, lower_conversion}
 use Rattle.spec.specs.Select.{lower_pointer_offset}
-use Rattle.tables.specs.declared.Counts.{Counts}
-use Rattle.tables.specs.Tables.{tables_of, size_at}
-use Rattle.tables.proofs.Laws.{size_here}
-use Rattle.values.specs.declared.State.{State}
+use Rattle.spec.specs.Lower.{lower_expression, as_bit, expression_as_bit}
+use Rattle.lir.specs.Abstract.{bit_operand_of}
+use Rattle.lir.specs.declared.BitOperand.{BitOperand as Bit}
+use Rattle.values.specs.declared.Lowering.{Lowering}
 use Rattle.values.specs.declared.Value.{Value as Val}
-use Rattle.values.specs.declared.Lowered.{Lowered}
-use Rattle.values.specs.declared.BitLowered.{BitLowered}
-use Rattle.values.specs.Heads.{Head, root, parts_of, head_of, flat_of, flat_bytes, flat_bit, flat_type}
-use Rattle.values.specs.Left.{Bufs, counters_in, at_top, MeetsValue, MeetsBit, DoneValue}
-use Rattle.values.specs.Laws.{prepend_prepend, left_then, drop_meets, drop_bit, with_stack}
-use Rattle.values.specs.Stack.{Extracts}
-use Rattle.parts.specs.Meets.{root_type, extract_meets}
+use Rattle.values.specs.Heads.{Head, root, parts_of, head_of, flat_of, flat_bytes, flat_bit, flat_type, operands_of}
+use Rattle.values.specs.Left.{counters_in, at_top, with_stack, Left, Case, Shows, IsValue, IsBit, Done, MeetsValue, MeetsBit, DoneValue, shown_done}
+use Rattle.values.specs.Laws.{left_none, left_then, left_drop}
+use Rattle.values.specs.Stack.{Extracts, heads, selects}
+use Rattle.parts.specs.Meets.{root_type, extract_meets, MeetsPart, select_meets as all_meet}
 use Rattle.parts.specs.Insert.{Inserts}
 use Rattle.parts.specs.InsertMeets.{insert_meets}
 use Rattle.reads.specs.declared.At.{At as Place}
 use Rattle.reads.specs.Reading.{at_of}
-use Rattle.lowering.specs.declared.OneStep.{OneStep}
-use Rattle.lowering.specs.declared.TwoStep.{TwoStep}
-use Rattle.lowering.specs.Behind.{BehindOne, BehindTwo}
+use Rattle.lowering.specs.Nodes.{MeetsHead}
 use Rattle.conversions.specs.Converting.{reinterpreted_by, reinterpreted_of}
+
+abbrev pub DoneHead : Lowering → Outcome Value → Lowering → Val → Type 0
+DoneHead = Done IsValue (λ _. [])
+
+-- an expression that is lowered: its value, of which hs is left
+pub record Lowers (T : Tables) (e : Expr) (hs : Value → List Head) (l l1 : Lowering) (x : Val) : Type 0 where
+  pub done : Done IsValue hs l (lower_expression T e nowhere (counters_in l)) l1 x
+
+abbrev pub LowersHead : Tables → Expr → Lowering → Lowering → Val → Type 0
+LowersHead T e = Lowers T e (λ _. [])
+
+abbrev pub LowersValue : Tables → Expr → Lowering → Lowering → Val → Type 0
+LowersValue T e = Lowers T e parts_of
+
+pub lowers : {T : Tables} {e : Expr} {hs : Value → List Head} {l l1 : Lowering} {x : Val} → Shows IsValue hs l (lower_expression T e nowhere (counters_in l)) l1 (Ok x) → Lowers T e hs l l1 x
+lowers m = record { done = shown_done m refl }
+
+-- a value's parts are let go
+pub head_meets : {l : Lowering} {o : Outcome Value} {l1 : Lowering} {x : Val} → l.top ≤ length l.stack.now → MeetsValue l o l1 (Ok x) → MeetsHead l o (at_top l1 l.top) (Ok x)
+head_meets {l} {o} {l1} {x} h m =
+    let d = shown_done m refl in
+    let e : ◌⊕◌ d.out nothing ≡ d.out = rw (append-nil d.out.storages, append-nil d.out.narrowed, append-nil d.out.instructions) in
+    rw d.is (record { shown = (d.shows, rw e at (left_drop d.left h (left_none (at_top l1 l.top)))) })
+
+-- ---------------------------------------------------------------- refusals
+
+module _ {A B : Type 0} (m : Lower A) (f : A → Lower B) {h : At} {c : monad.Counters} {n k : ℕ} where
+  pub first_stops : m h c ≡ refused n k → (m >>= f) h c ≡ refused n k
+  unfolding ◌>>=◌
+  first_stops e = rw e
+
+-- behind an expression that is lowered
+pub later_stops : {A : Type 0} {T : Tables} {e : Expr} {hs : Value → List Head} {l l1 : Lowering} {x : Val} (d : Lowers T e hs l l1 x) (f : Value → Lower A) {n k : ℕ}
+    → f d.done.v nowhere (counters_in l1) ≡ refused n k → (lower_expression T e >>= f) nowhere (counters_in l) ≡ refused n k
+unfolding ◌>>=◌
+later_stops d f g = rw (d.done.is, g)
 
 -- ---------------------------------------------------------------- steps that look at heads alone
 
@@ -85,29 +119,63 @@ module _ (T : Tables) (h : At) (c : monad.Counters) where
   conversion_flat op ty to_boolean e n v = rw (e, flat_type v, flat_bytes v)
   conversion_flat op ty of_float e n v = rw e
 
--- ---------------------------------------------------------------- behind one operand
+-- ---------------------------------------------------------------- behind an operand's head
 
--- a step that looks at the head alone
-behind_head : {b : Bufs} {s : State} {o : Outcome Value} {b1 : Bufs} {x : Val} {s1 : State} (f : Value → Outcome Value) → ((v : Value) → f (flat_of (root v)) ≡ f v)
-    → (d : DoneValue b s o b1 x s1) → s.top ≤ length b.stack → {b2 : Bufs} {r : Lowered} → MeetsValue b1 (at_top s1 s.top) (f (flat_of (head_of x))) b2 r → MeetsValue b s (prepend d.out (f d.v)) b2 r
-behind_head {s = s} {b1 = b1} {x} {s1} f e d t {b2} {r} m =
-    drop_meets d.left t (subst (λ (z : Outcome Value). MeetsValue b1 (at_top s1 s.top) z b2 r) (ap (λ (z : Head). f (flat_of z)) d.head ∙ e d.v) m)
+then_case : {A B : Type 0} (P : A → B → Type 0) (hs : A → List Head) {l : Lowering} {cs : monad.Counters} {o : Out} {l1 : Lowering} → Left l [] cs o l1
+    → (p : Outcome A) (l2 : Lowering) (r : Result B (Refused Refusal)) → Case P hs l1 p l2 r → Case P hs l (prepend o p) l2 r
+then_case P hs a (done v t q) l2 (Ok y) k = (k.0, left_then a k.1)
+then_case P hs a (done v t q) l2 (Err e) k = k
+then_case P hs a (refused i j) l2 (Ok y) k = k
+then_case P hs a (refused i j) l2 (Err e) k = k
 
-module _ {T : Tables} {h : At} {s s1 : State} {x : Val} {b1 b2 : Bufs} {r : Lowered} where
-  pub behind_unary : (op : ℕ) → MeetsValue b1 (at_top s1 s.top) (lower_integer_unary T (integer_unary_op op) (flat_of (head_of x)) h.ty h (counters_in s1)) b2 r
-      → BehindOne T h (OneStep.Unary op) s s1 x b1 b2 r
-  behind_unary op m =
-      record {
-        meets = λ d t. behind_head (λ v. lower_integer_unary T (integer_unary_op op) v h.ty h (counters_in s1)) (unary_flat T h (counters_in s1) (integer_unary_op op) h.ty) d t m;
-      }
+-- a step that looks at the head alone of the value before it
+head_then : {A B : Type 0} {P : A → B → Type 0} {hs : A → List Head} {l : Lowering} {o : Outcome Value} {l1 : Lowering} {x : Val} (f : Value → Outcome A) → ((v : Value) → f (flat_of (root v)) ≡ f v)
+    → (d : DoneHead l o l1 x) {l2 : Lowering} {r : Result B (Refused Refusal)} → Shows P hs l1 (f (flat_of (head_of x))) l2 r → Shows P hs l (prepend d.out (f d.v)) l2 r
+head_then {A = A} {P = P} {hs} {l1 = l1} f e d {l2} {r} m =
+    let k = subst (λ (z : Outcome A). Shows P hs l1 z l2 r) (ap (λ (z : Head). f (flat_of z)) d.shows.head ∙ e d.v) m in
+    record { shown = then_case P hs d.left (f d.v) l2 r k.shown }
 
-  pub behind_conversion : (op : ℕ) → (conversion_form (conversion_op op) ≡ reinterpreting → ⊥)
-      → MeetsValue b1 (at_top s1 s.top) (lower_conversion T (conversion_op op) (flat_of (head_of x)) h.ty h (counters_in s1)) b2 r
-      → BehindOne T h (OneStep.Convert op) s s1 x b1 b2 r
-  behind_conversion op n m =
-      record {
-        meets = λ d t. behind_head (λ v. lower_conversion T (conversion_op op) v h.ty h (counters_in s1)) (conversion_flat T h (counters_in s1) (conversion_op op) h.ty (conversion_form (conversion_op op)) refl n) d t m;
-      }
+-- at the two of them
+heads_then : {l : Lowering} {o : Outcome Value} {l1 : Lowering} {x : Val} {p : Outcome Value} {l2 : Lowering} {y : Val} (f : Value → Value → Outcome Value)
+    → ((v w : Value) → f (flat_of (root v)) w ≡ f v w) → ((v w : Value) → f v (flat_of (root w)) ≡ f v w) → (d : DoneHead l o l1 x) (e : DoneHead l1 p l2 y)
+    → {l3 : Lowering} {r : Result Val (Refused Refusal)} → MeetsValue l2 (f (flat_of (head_of x)) (flat_of (head_of y))) l3 r → MeetsValue l (prepend d.out (prepend e.out (f d.v e.v))) l3 r
+heads_then {x = x} f g k d e m =
+    head_then (λ v. prepend e.out (f v e.v)) (λ v. ap (λ (z : Outcome Value). prepend e.out z) (g v e.v)) d (head_then (f (flat_of (head_of x))) (k (flat_of (head_of x))) e m)
+
+module _ {T : Tables} {a : Expr} {l l1 : Lowering} {x : Val} (p : LowersHead T a l l1 x) (h : At) {l2 : Lowering} where
+  pub unary_meets : (op : hir.IntegerUnaryOp) {r : Result Val (Refused Refusal)} → MeetsValue l1 (lower_integer_unary T op (flat_of (head_of x)) h.ty h (counters_in l1)) l2 r
+      → MeetsValue l (lower_expression T (integer_unary h op a) nowhere (counters_in l)) l2 r
+  unfolding lower_expression ◌>>=◌
+  unary_meets op m = rw p.done.is (head_then (λ v. lower_integer_unary T op v h.ty h (counters_in l1)) (unary_flat T h (counters_in l1) op h.ty) p.done m)
+
+  pub conversion_meets : (op : hir.ConversionOp) → (conversion_form op ≡ reinterpreting → ⊥) → {r : Result Val (Refused Refusal)}
+      → MeetsValue l1 (lower_conversion T op (flat_of (head_of x)) h.ty h (counters_in l1)) l2 r → MeetsValue l (lower_expression T (convert h op a) nowhere (counters_in l)) l2 r
+  unfolding lower_expression ◌>>=◌
+  conversion_meets op n m = rw p.done.is (head_then (λ v. lower_conversion T op v h.ty h (counters_in l1)) (conversion_flat T h (counters_in l1) op h.ty (conversion_form op) refl n) p.done m)
+
+  pub bit_meets : {r : Result Bit (Refused Refusal)} → MeetsBit l1 (value_as_bit T (flat_of (head_of x)) h (counters_in l1)) l2 r → MeetsBit l (expression_as_bit T h a nowhere (counters_in l)) l2 r
+  unfolding expression_as_bit as_bit ◌>>=◌
+  bit_meets m = rw p.done.is (head_then (λ v. value_as_bit T v h (counters_in l1)) (bit_flat T h (counters_in l1)) p.done m)
+
+  module _ {b : Expr} {y : Val} (q : LowersHead T b l1 l2 y) {l3 : Lowering} {r : Result Val (Refused Refusal)} where
+    pub binary_meets : (op : hir.IntegerBinaryOp) → MeetsValue l2 (lower_integer_binary T op (flat_of (head_of x)) (flat_of (head_of y)) h.ty h (counters_in l2)) l3 r
+        → MeetsValue l (lower_expression T (integer_binary h op a b) nowhere (counters_in l)) l3 r
+    unfolding lower_expression ◌>>=◌
+    binary_meets op m =
+        rw (p.done.is, q.done.is)
+        (heads_then (λ v w. lower_integer_binary T op v w h.ty h (counters_in l2)) (binary_left T h (counters_in l2) op h.ty) (binary_right T h (counters_in l2) op h.ty) p.done q.done m)
+
+    pub compare_meets : (op : hir.CompareOp) → MeetsValue l2 (lower_compare T op (flat_of (head_of x)) (flat_of (head_of y)) h (counters_in l2)) l3 r
+        → MeetsValue l (lower_expression T (compare h op a b) nowhere (counters_in l)) l3 r
+    unfolding lower_expression ◌>>=◌
+    compare_meets op m = rw (p.done.is, q.done.is) (heads_then (λ v w. lower_compare T op v w h (counters_in l2)) (compare_left T h (counters_in l2) op) (compare_right T h (counters_in l2) op) p.done q.done m)
+
+    pub offset_meets : MeetsValue l2 (lower_pointer_offset T (flat_of (head_of x)) (flat_of (head_of y)) h (counters_in l2)) l3 r
+        → MeetsValue l (lower_expression T (pointer_offset h a b) nowhere (counters_in l)) l3 r
+    unfolding lower_expression ◌>>=◌
+    offset_meets m = rw (p.done.is, q.done.is) (heads_then (λ v w. lower_pointer_offset T v w h (counters_in l2)) (offset_left T h (counters_in l2)) (offset_right T h (counters_in l2)) p.done q.done m)
+
+-- ---------------------------------------------------------------- behind an operand and its parts
 
 parts_same : (ty : ℕ) (v : Value) → parts_of (value ty (value_repr v)) ≡ parts_of v
 parts_same ty (value t r) = refl
@@ -116,80 +184,48 @@ head_same : (ty : ℕ) (x : Val) (v : Value) → head_of x ≡ root v → head_o
 head_same ty x (value t r) e = ap (λ (z : Head). record { ty = ty; shape = z.shape }) e
 
 -- a value's records under another type
-reinterpret_case : {b : Bufs} {s : State} {o : Outcome Value} {b1 : Bufs} {x : Val} {s1 : State} (h : Place) (d : DoneValue b s o b1 x s1) (q : Bool)
-    → MeetsValue b s (prepend d.out (bind_to (λ (u : Unit). λ g c. done (value h.ty (value_repr d.v)) c nothing) (at_of h) (require 22 q (at_of h) (counters_in s1)))) b1
-    (reinterpreted_by q s1 x h)
+reinterpret_case : {l : Lowering} {o : Outcome Value} {l1 : Lowering} {x : Val} (h : Place) (d : DoneValue l o l1 x) (q : Bool)
+    → MeetsValue l (prepend d.out (bind_to (λ (u : Unit). λ g c. done (value h.ty (value_repr d.v)) c nothing) (at_of h) (require 22 q (at_of h) (counters_in l1)))) l1 (reinterpreted_by q x h)
 unfolding require
-reinterpret_case {b} {s} {o} {b1} {x} {s1} h d false = record { shown = (refl, refl) }
-reinterpret_case {b} {s} {o} {b1} {x} {s1} h d true =
+reinterpret_case h d false = record { shown = (refl, refl) }
+reinterpret_case {x = x} h d true =
     record {
       shown = (
-        head_same h.ty x d.v d.head,
-        d.sound,
+        record { head = head_same h.ty x d.v d.shows.head; sound = d.shows.sound },
         rw (append-nil d.out.storages, append-nil d.out.narrowed, append-nil d.out.instructions, parts_same h.ty d.v) d.left,
       );
     }
 
-module _ (rows nodes lists : List ℕ) (c : Counts) {s s1 : State} {x : Val} {b1 : Bufs} {r : Lowered} where
-  pub behind_reinterpreted : (h : Place) (op : ℕ) → conversion_form (conversion_op op) ≡ reinterpreting → r ≡ reinterpreted_of rows c s1 x h
-      → BehindOne (tables_of rows nodes lists c) (at_of h) (OneStep.Convert op) s s1 x b1 b1 r
-  unfolding lower_conversion reinterpreted ◌>>◌ reinterpreted_of
-  behind_reinterpreted h op e q =
-      record {
-        meets = λ d t. rw (e, q, ← (root_type d.v), ← d.head, size_here rows nodes lists c x.ty, size_here rows nodes lists c h.ty) (reinterpret_case h d (eqb (size_at rows c x.ty) (size_at rows c h.ty)));
-      }
+pub reinterpret_meets : (t : code.Tables) {a : Expr} {l l1 : Lowering} {x : Val} → LowersValue (ticket_of t) a l l1 x → (h : Place) (op : hir.ConversionOp) → conversion_form op ≡ reinterpreting
+    → {r : Result Val (Refused Refusal)} → r ≡ reinterpreted_of t.rows.now t.counts x h → MeetsValue l (lower_expression (ticket_of t) (convert (at_of h) op a) nowhere (counters_in l)) l1 r
+unfolding lower_expression lower_conversion reinterpreted ◌>>=◌ ◌>>◌ reinterpreted_of
+reinterpret_meets t {x = x} p h op e q =
+    let rows = t.rows.now in
+    let lists = t.lists.now in
+    rw (p.done.is, e, q, ← (root_type p.done.v), ← p.done.shows.head, size_here rows lists t.counts x.ty, size_here rows lists t.counts h.ty)
+    (reinterpret_case h p.done (eqb (size_at rows t.counts x.ty) (size_at rows t.counts h.ty)))
 
-module _ {T : Tables} {h : At} {s s1 : State} {x : Val} {b1 : Bufs} {r : Lowered} where
-  pub behind_extract : (i : ℕ) (stack2 : List ℕ) → length stack2 ≡ length b1.stack → Extracts b1.stack (at_top s1 s.top) s1.top x i h.line stack2 r
-      → BehindOne T h (OneStep.Extract i) s s1 x b1 (with_stack b1 stack2) r
-  behind_extract i stack2 e m = record { meets = λ d t. extract_meets d t i h stack2 e T m }
+module _ {T : Tables} {a : Expr} {l l1 : Lowering} {x : Val} (p : LowersValue T a l l1 x) where
+  module _ (h : At) (t : l.top ≤ length l.stack.now) where
+    pub extract_part : (i : ℕ) {ws : List ℕ} {r : Option (Val × ℕ)} → length ws ≡ length l1.stack.now → Extracts l1.stack.now l.top l1.top x i ws r
+        → MeetsPart h.line l (lower_expression T (extract_element h a i) nowhere (counters_in l)) (with_stack l1 ws) r
+    unfolding lower_expression ◌>>=◌
+    extract_part i {ws} n m = rw p.done.is (extract_meets p.done t i h ws n T m)
 
--- ---------------------------------------------------------------- behind two
+    module _ {b : Expr} {l2 : Lowering} {y : Val} (q : LowersValue T b l1 l2 y) where
+      pub insert_part : (i : ℕ) {ws : List ℕ} {r : Option (Val × ℕ)} → length ws ≡ length l2.stack.now → Inserts l2.stack.now l.top l1.top l2.top x i y h.ty ws r
+          → MeetsPart h.line l (lower_expression T (insert_element h a i b) nowhere (counters_in l)) (with_stack l2 ws) r
+      unfolding lower_expression ◌>>=◌
+      insert_part i {ws} n m = rw (p.done.is, q.done.is) (insert_meets p.done q.done t i h.ty h ws n T m)
 
-two_meets : {b : Bufs} {s : State} {o : Outcome Value} {b1 : Bufs} {x : Val} {s1 : State} {p : Outcome Value} {b2 : Bufs} {y : Val} {s2 : State} (d : DoneValue b s o b1 x s1) (e : DoneValue b1 s1 p b2 y s2)
-    → s.top ≤ length b.stack → {z : Outcome Value} {b3 : Bufs} {r : Lowered} → MeetsValue b2 (at_top s2 s.top) z b3 r → MeetsValue b s (prepend d.out (prepend e.out z)) b3 r
-two_meets {b} {s} d e t {z} {b3} {r} m =
-    subst (λ (a : Outcome Value). MeetsValue b s a b3 r) (sym (prepend_prepend d.out e.out z)) (drop_meets (left_then d.left e.left) t m)
+      pub select_meets : (c : Expr) {l3 : Lowering} {z : Bit} (k : Done IsBit (λ _. []) l2 (expression_as_bit T h c nowhere (counters_in l2)) l3 z) {l4 : Lowering} {r : Result Val (Refused Refusal)}
+          → MeetsValue (at_top l3 l.top) (selects T (bit_operand_of z) x.ty (operands_of (head_of x ∷ heads l3.stack.now l.top l1.top)) y.ty (operands_of (head_of y ∷ heads l3.stack.now l1.top l2.top)) h.ty h (counters_in l3)) l4 r
+          → MeetsValue l (lower_expression T (select h a b c) nowhere (counters_in l)) l4 r
+      unfolding lower_expression expression_as_bit ◌>>=◌
+      select_meets c k m = rw (p.done.is, q.done.is, k.is, ← k.shows) (all_meet p.done q.done k t T h.ty h m)
 
-behind_heads : {b : Bufs} {s : State} {o : Outcome Value} {b1 : Bufs} {x : Val} {s1 : State} {p : Outcome Value} {b2 : Bufs} {y : Val} {s2 : State} (f : Value → Value → Outcome Value)
-    → ((v w : Value) → f (flat_of (root v)) w ≡ f v w) → ((v w : Value) → f v (flat_of (root w)) ≡ f v w) → (d : DoneValue b s o b1 x s1) (e : DoneValue b1 s1 p b2 y s2) → s.top ≤ length b.stack
-    → {b3 : Bufs} {r : Lowered} → MeetsValue b2 (at_top s2 s.top) (f (flat_of (head_of x)) (flat_of (head_of y))) b3 r → MeetsValue b s (prepend d.out (prepend e.out (f d.v e.v))) b3 r
-behind_heads {s = s} {x = x} {b2 = b2} {y} {s2} f g k d e t {b3} {r} m =
-    two_meets d e t
-    (subst (λ (z : Outcome Value). MeetsValue b2 (at_top s2 s.top) z b3 r)
-    (ap (λ (z : Head). f (flat_of z) (flat_of (head_of y))) d.head ∙ ap (λ (z : Head). f (flat_of (root d.v)) (flat_of z)) e.head ∙ g d.v (flat_of (root e.v)) ∙ k d.v e.v) m)
-
-module _ {T : Tables} {h : At} {s s1 s2 : State} {x y : Val} {b2 b3 : Bufs} {r : Lowered} where
-  pub behind_binary : (op : ℕ) → MeetsValue b2 (at_top s2 s.top) (lower_integer_binary T (integer_binary_op op) (flat_of (head_of x)) (flat_of (head_of y)) h.ty h (counters_in s2)) b3 r
-      → BehindTwo T h (TwoStep.Binary op) s s1 s2 x y b2 b3 r
-  behind_binary op m =
-      record {
-        meets = λ d e t. behind_heads (λ v w. lower_integer_binary T (integer_binary_op op) v w h.ty h (counters_in s2)) (binary_left T h (counters_in s2) (integer_binary_op op) h.ty) (binary_right T h (counters_in s2) (integer_binary_op op) h.ty) d e t m;
-      }
-
-  pub behind_compare : (op : ℕ) → MeetsValue b2 (at_top s2 s.top) (lower_compare T (compare_op op) (flat_of (head_of x)) (flat_of (head_of y)) h (counters_in s2)) b3 r
-      → BehindTwo T h (TwoStep.Compare op) s s1 s2 x y b2 b3 r
-  behind_compare op m =
-      record {
-        meets = λ d e t. behind_heads (λ v w. lower_compare T (compare_op op) v w h (counters_in s2)) (compare_left T h (counters_in s2) (compare_op op)) (compare_right T h (counters_in s2) (compare_op op)) d e t m;
-      }
-
-  pub behind_offset : MeetsValue b2 (at_top s2 s.top) (lower_pointer_offset T (flat_of (head_of x)) (flat_of (head_of y)) h (counters_in s2)) b3 r
-      → BehindTwo T h TwoStep.Offset s s1 s2 x y b2 b3 r
-  behind_offset m =
-      record {
-        meets = λ d e t. behind_heads (λ v w. lower_pointer_offset T v w h (counters_in s2)) (offset_left T h (counters_in s2)) (offset_right T h (counters_in s2)) d e t m;
-      }
-
-module _ {T : Tables} {h : At} {s s1 s2 : State} {x y : Val} {b2 : Bufs} {r : Lowered} where
-  pub behind_insert : (i : ℕ) (stack3 : List ℕ) → length stack3 ≡ length b2.stack → Inserts b2.stack (at_top s2 s.top) s1.top s2.top x i y h.ty h.line stack3 r
-      → BehindTwo T h (TwoStep.Insert i) s s1 s2 x y b2 (with_stack b2 stack3) r
-  behind_insert i stack3 n m = record { meets = λ d e t. insert_meets d e t i h.ty h stack3 n T m }
-
--- ---------------------------------------------------------------- a bit behind its operand
-
-pub behind_bit : {b : Bufs} {s : State} {o : Outcome Value} {b1 : Bufs} {x : Val} {s1 : State} (T : Tables) (h : At) (d : DoneValue b s o b1 x s1) → s.top ≤ length b.stack → {b2 : Bufs} {r : BitLowered}
-    → MeetsBit b1 (at_top s1 s.top) (value_as_bit T (flat_of (head_of x)) h (counters_in s1)) b2 r → MeetsBit b s (prepend d.out (value_as_bit T d.v h (counters_in s1))) b2 r
-behind_bit {s = s} {b1 = b1} {x} {s1} T h d t {b2} {r} m =
-    drop_bit d.left t
-    (subst (λ (z : Outcome BitOperand). MeetsBit b1 (at_top s1 s.top) z b2 r) (ap (λ (z : Head). value_as_bit T (flat_of z) h (counters_in s1)) d.head ∙ bit_flat T h (counters_in s1) d.v) m)
+-- a select whose condition is refused
+pub condition_stops : {T : Tables} {a b : Expr} {l l1 l2 : Lowering} {x y : Val} (p : LowersValue T a l l1 x) (q : LowersValue T b l1 l2 y) (h : At) (c : Expr) {n k : ℕ}
+    → expression_as_bit T h c nowhere (counters_in l2) ≡ refused n k → lower_expression T (select h a b c) nowhere (counters_in l) ≡ refused n k
+unfolding lower_expression expression_as_bit ◌>>=◌
+condition_stops p q h c g = rw (p.done.is, q.done.is, g)

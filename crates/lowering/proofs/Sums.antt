@@ -1,23 +1,22 @@
 -- What the lowering of a tree uses of the room that it has.
-use Prim.Native.Nat.{ℕ, suc, ◌+◌, ◌*◌, ◌≤◌, zero-le}
-use mathlib.Core.List.{List, ◌∷◌, []}
-use mathlib.Core.Path.{◌≡◌, refl, sym, ap, ◌∙◌}
-use native.Mathlib.Omega.{arith}
-use lib.ListN.{length, length-append}
-use Rattle.spec.specs.Hir.{At, Expr, boolean, integer, float32, float64, null_pointer, static_address, function_address, read, integer_unary, integer_binary, float_unary, float_binary, compare, convert, select, address_of, pointer_offset, aggregate, extract_element, insert_element, Exprs, no_exprs, ◌∷ᵉ◌}
-use Rattle.spec.specs.Ticket.{Tables, exprs_of, nowhere}
+use Rattle.std.specs.Prelude.{◌≡◌, refl, List, ℕ, suc, ◌+◌, ◌*◌, ◌≤◌, length}
+use Rattle.std.proofs.Common.{sym, ap, ◌∙◌, arith, length-append}
+use Prim.Native.Nat.{zero-le}
+use Rattle.spec.specs.Hir.{Expr, boolean, integer, float32, float64, null_pointer, static_address, function_address, read, integer_unary, integer_binary, float_unary, float_binary, compare, convert, select, address_of, pointer_offset, aggregate, extract_element, insert_element, Exprs, no_exprs, ◌∷ᵉ◌}
+use Rattle.spec.specs.Ticket.{Tables, nowhere}
 use Rattle.spec.specs.Readable.{TypesRight, node_sum, node_sums}
 use Rattle.spec.specs.Lir.{Value, value, Repr, unit, bit_value, bytes_value, Values, no_values, ◌∷ᵛ◌}
 use Rattle.spec.specs.Lir as lir
-use Rattle.spec.specs.Lower.{lower_expression, expression_as_bit}
+use Rattle.spec.specs.Monad.{Outcome}
+use Rattle.spec.specs.Lower.{lower_expression}
 use Rattle.spec.proofs.CostReads.{records, records_in, records_of}
-use Rattle.spec.proofs.CostClosed.{lowers, lowers_bit}
-use Rattle.lir.specs.declared.BitOperand.{BitOperand as Bit}
+use Rattle.spec.proofs.CostClosed.{lowers}
+use Rattle.lir.specs.declared.NodeId.{NodeId}
 use Rattle.emission.specs.Appends.{Room, room_after}
-use Rattle.values.specs.declared.State.{State}
+use Rattle.values.specs.declared.Lowering.{Lowering}
 use Rattle.values.specs.declared.Value.{Value as Val}
-use Rattle.values.specs.Heads.{parts_of, repr_parts_of, preorders, length_heads}
-use Rattle.values.specs.Left.{Bufs, counters_in, DoneValue, DoneBit}
+use Rattle.values.specs.Heads.{Head, parts_of, repr_parts_of, preorders, length_heads}
+use Rattle.values.specs.Left.{counters_in, Done, IsValue, DoneValue}
 use Rattle.reads.specs.Reading.{size_of, weight_of}
 
 -- ---------------------------------------------------------------- sums
@@ -45,12 +44,6 @@ module _ (f : ℕ → ℕ) (k : (t : ℕ) → 1 ≤ f t) where
   sum_least (aggregate h es) = omega (arith, k h.ty)
   sum_least (extract_element h e i) = omega (arith, k h.ty)
   sum_least (insert_element h e i w) = omega (arith, k h.ty)
-
-  -- a list's nodes are at most its sum
-  pub sums_least : (g : ℕ → Expr) (xs : List ℕ) → length xs ≤ node_sums f (exprs_of g xs)
-  unfolding node_sum
-  sums_least g [] = zero-le
-  sums_least g (x ∷ xs) = omega (arith, sum_least (g x), sums_least g xs)
 
 module _ (f g : ℕ → ℕ) (k : (t : ℕ) → f t ≤ g t) where
   mutual
@@ -100,35 +93,34 @@ mutual
   records_values no_values = refl
   records_values (v ∷ᵛ vs) = omega (arith, records_parts v, records_values vs, length-append (parts_of v) (preorders vs))
 
--- ---------------------------------------------------------------- what is used
+-- ---------------------------------------------------------------- what is left
 
--- at most n of each counter, and w records but one
-pub record Used (n w : ℕ) (b : Bufs) (s : State) (b1 : Bufs) (s1 : State) : Type 0 where
-  pub after : (m : ℕ) → Room (n + m) s.counters → Room m s1.counters
-  pub top : s1.top + 8 ≤ s.top + 8 * w
-  pub above : s.top ≤ s1.top
-  pub long : length b1.stack ≡ length b.stack
+module _ {A B : Type 0} {P : A → B → Type 0} {hs : A → List Head} {l : Lowering} {o : Outcome A} {l1 : Lowering} {x : B} (d : Done P hs l o l1 x) where
+  -- the node in hand is kept
+  pub node_after : {n : ℕ} → n ≡ l.out.node.0 → n ≡ l1.out.node.0
+  node_after e = e ∙ sym (ap (λ (z : NodeId). z.0) d.left.appends.node)
 
-module _ (T : Tables) (R : TypesRight T) (e : Expr) where
-  pub used : {b : Bufs} {s : State} {b1 : Bufs} {x : Val} {s1 : State} → DoneValue b s (lower_expression T e nowhere (counters_in s)) b1 x s1
-      → Used (node_sum (λ ty. 2 * size_of T ty + 2) e) (node_sum (weight_of T) e) b s b1 s1
-  used {b} {s} {b1} {x} {s1} d =
-      let k = lowers T R nowhere (counters_in s) e d.v (counters_in s1) d.out d.is in
-      let l = d.left in
-      let p : length l.parts ≡ length (parts_of d.v) = sym (length_heads l.parts) ∙ ap length l.shows in
-      let q = records_parts d.v in
-      let z = sum_le (λ ty. size_of T ty + 2) (λ ty. 2 * size_of T ty + 2) (λ t. omega arith) e in
-      record {
-        after = λ m r. room_after m (omega (arith, z, k.cost.storages)) (omega (arith, k.cost.instructions)) r l.appends;
-        top = omega (arith, p, q, k.result, l.topped);
-        above = omega (arith, l.topped);
-        long = l.long;
-      }
+  -- as many records as the answer has parts
+  pub topped : l1.top ≡ l.top + 8 * length (hs d.v)
+  topped =
+      let p : length d.left.parts ≡ length (hs d.v) = sym (length_heads d.left.parts) ∙ ap length d.left.shows in
+      omega (arith, p, d.left.topped)
 
-  -- a bit wants one more, and leaves no record
-  pub used_bit : (h : At) {b : Bufs} {s : State} {b1 : Bufs} {x : Bit} {s1 : State} → DoneBit b s (expression_as_bit T h e nowhere (counters_in s)) b1 x s1
-      → (m : ℕ) → Room (node_sum (λ ty. 2 * size_of T ty + 2) e + 1 + m) s.counters → Room m s1.counters
-  used_bit h {b} {s} {b1} {x} {s1} d m r =
-      let k = lowers_bit T R nowhere (counters_in s) h e _ (counters_in s1) d.out d.is in
-      let z = sum_le (λ ty. size_of T ty + 2) (λ ty. 2 * size_of T ty + 2) (λ t. omega arith) e in
-      room_after m (omega (arith, z, k.cost.storages)) (omega (arith, k.cost.instructions)) r d.left.appends
+-- what a node of a type uses of each counter, at most
+abbrev pub cost : Tables → ℕ → ℕ
+cost T ty = 2 * size_of T ty + 2
+
+module _ (T : Tables) (R : TypesRight T) where
+  module _ (e : Expr) {l : Lowering} {l1 : Lowering} {x : Val} where
+    -- the room behind a node
+    pub after : {hs : Value → List Head} → Done IsValue hs l (lower_expression T e nowhere (counters_in l)) l1 x → (m : ℕ) → Room (node_sum (cost T) e + m) l.out → Room m l1.out
+    after d m r =
+        let k = lowers T R nowhere (counters_in l) e d.v (counters_in l1) d.out d.is in
+        let z = sum_le (λ ty. size_of T ty + 2) (cost T) (λ t. omega arith) e in
+        room_after m (omega (arith, z, k.cost.storages)) (omega (arith, k.cost.instructions)) r d.left.appends
+
+    -- its records but one
+    pub top_after : DoneValue l (lower_expression T e nowhere (counters_in l)) l1 x → l1.top + 8 ≤ l.top + 8 * node_sum (weight_of T) e
+    top_after d =
+        let k = lowers T R nowhere (counters_in l) e d.v (counters_in l1) d.out d.is in
+        omega (arith, topped d, records_parts d.v, k.result)

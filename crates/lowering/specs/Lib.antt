@@ -1,4 +1,2 @@
-pub mod Forms
-pub mod Rooms
-pub mod Behind
 pub mod Nodes
+pub mod Rooms

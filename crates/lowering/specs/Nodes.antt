@@ -1,15 +1,20 @@
--- The node whose own step is in hand: set for a node's step, and set back behind it.
-use Rattle.lir.specs.declared.NodeId.{NodeId}
-use Rattle.emission.specs.declared.Counters.{Counters}
-use Rattle.values.specs.declared.State.{State}
-use Rattle.values.specs.declared.Lowered.{Lowered}
+-- An aggregate's nodes, a lowering in a node's own step, and a value without its parts.
+use Rattle.std.specs.Prelude.{List, [], ℕ, Result}
+use Rattle.answers.specs.declared.Refusal.{Refusal}
+use Rattle.answers.specs.declared.Refused.{Refused}
+use Rattle.spec.specs.Hir.{Exprs}
+use Rattle.spec.specs.Lir.{Value}
+use Rattle.spec.specs.Monad.{Outcome}
+use Rattle.spec.specs.Ticket.{Tables, expr_at, exprs_of}
+use Rattle.tables.specs.Tables.{run}
+use Rattle.values.specs.declared.Lowering.{Lowering}
+use Rattle.values.specs.declared.Value.{Value as Val}
+use Rattle.values.specs.Left.{Shows, IsValue}
 
-abbrev pub counters_with : Counters → NodeId → Counters
-counters_with c n = record { at = c.at; instructions = c.instructions; stored = c.stored; storage = c.storage; temporary = c.temporary; node = n }
+-- the nodes of a run of the lists
+abbrev pub kids : Tables → List ℕ → ℕ → ℕ → ℕ → Exprs
+kids T lists d a n = exprs_of (λ k. expr_at d T k) (run lists a n)
 
-abbrev pub with_node : State → NodeId → State
-with_node s n = record { counters = counters_with s.counters n; top = s.top }
-
-abbrev pub restored_of : Lowered → NodeId → Lowered
-restored_of (Lowered.Refused n l) k = Lowered.Refused n l
-restored_of (Lowered.Done v s) k = Lowered.Done v (with_node s k)
+-- a value of which no part is left
+abbrev pub MeetsHead : Lowering → Outcome Value → Lowering → Result Val (Refused Refusal) → Type 0
+MeetsHead = Shows IsValue (λ _. [])

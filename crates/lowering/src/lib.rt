@@ -1,646 +1,239 @@
 // `lower_expression` over numbered node lines: a node's operands first, and then its own step over what they left. An aggregate's parts
-// stand on the lent stack; a step is given the state before its operands, whose top its own value goes by.
+// stand on the lent stack, from the top that was there before the node.
 #![tactic(auto)]
 
-ghost use Rattle.std.specs.Prelude.{◌≡◌, List, ℕ, ◌+◌, ◌≤◌};
+ghost use Rattle.std.specs.Prelude.{◌≡◌};
+ghost use Rattle.spec.specs.Hir.{convert, select, aggregate, extract_element, insert_element};
+ghost use Rattle.spec.specs.Ticket as ticket;
 ghost use Rattle.spec.specs.Ticket.{expr_at, nowhere};
-ghost use Rattle.spec.specs.Readable.{Readable};
-ghost use Rattle.spec.specs.Lower.{lower_expression, lower_expressions, expression_as_bit};
-ghost use Rattle.tables.specs.Tables.{tables_of, Sized};
-ghost use Rattle.values.specs.Left.{bufs, counters_in, MeetsValue, MeetsBit, MeetsList};
-ghost use Rattle.reads.specs.Reading.{at_of, StepRoom};
-ghost use Rattle.lowering.specs.declared.Form.{Form as form};
-ghost use Rattle.lowering.specs.declared.OneStep.{OneStep as one};
-ghost use Rattle.lowering.specs.Forms.{form_of, leaf_of, kids, lower_form, Found};
-ghost use Rattle.lowering.specs.Rooms.{TreeRoom, ListRoom, FormRoom, OneReady, TwoReady};
-ghost use Rattle.lowering.specs.Behind.{BehindOne, BehindTwo};
-ghost use Rattle.lowering.specs.Nodes.{with_node, restored_of};
+ghost use Rattle.spec.specs.Lower.{lower_expression};
+ghost use Rattle.tables.specs.Tables.{tree_of};
+ghost use Rattle.tables.specs.Ticket.{ticket_of};
+ghost use Rattle.values.specs.Left.{counters_in, MeetsValue};
+ghost use Rattle.reads.specs.Reading.{at_of};
+ghost use Rattle.lowering.specs.Nodes.{kids, MeetsHead};
+ghost use Rattle.lowering.specs.Rooms.{TreeRoom, NodeRoom};
 
-use emission::Counters;
+use answers::{Refusal, Refused};
 use lir::NodeId;
 use reads::At;
-use tables::{Counts, NodeKind};
-use values::{BitLowered, Listed, Lowered, State, Value};
+use tables::{NodeKind, Tables};
+use values::{Lowering, Repr, Value};
 
-// A node without operands that are lowered.
-#[derive(Drop)]
-pub enum Leaf {
-    Bool(u64),
-    Int(u64),
-    Float,
-    FloatOperation,
-    Null,
-    StaticAddress(u64, u64),
-    Function(u64),
-    Read(u64),
-    Address(u64),
-}
-
-// What is done with one operand.
-#[derive(Drop)]
-pub enum OneStep {
-    Unary(u64),
-    Convert(u64),
-    Extract(u64),
-}
-
-// What is done with two.
-#[derive(Drop)]
-pub enum TwoStep {
-    Binary(u64),
-    Compare(u64),
-    Offset,
-    Insert(u64),
-}
-
-// A node by its operands. Aggregate: where its parts begin in the lists, and how many they are.
-#[derive(Drop)]
-pub enum Form {
-    Leaf(Leaf),
-    One(OneStep, u64),
-    Two(TwoStep, u64, u64),
-    Select(u64, u64, u64),
-    Aggregate(u64, u64),
-}
-
-#[derive(Drop)]
-pub struct Node {
-    pub form: Form,
-    pub at: At,
-}
-
-fn form_of(kind: NodeKind) -> Form
-    ensures { result ≡ form_of kind }
-{
-    match kind {
-        NodeKind::Bool(v) => Form::Leaf(Leaf::Bool(v)),
-        NodeKind::Int(v) => Form::Leaf(Leaf::Int(v)),
-        NodeKind::F32(_) => Form::Leaf(Leaf::Float),
-        NodeKind::F64(_) => Form::Leaf(Leaf::Float),
-        NodeKind::Null => Form::Leaf(Leaf::Null),
-        NodeKind::StaticAddress(k, o) => Form::Leaf(Leaf::StaticAddress(k, o)),
-        NodeKind::Function(f) => Form::Leaf(Leaf::Function(f)),
-        NodeKind::Read(p) => Form::Leaf(Leaf::Read(p)),
-        NodeKind::Unary(op, e) => Form::One(OneStep::Unary(op), e),
-        NodeKind::Binary(op, l, r) => Form::Two(TwoStep::Binary(op), l, r),
-        NodeKind::Funary(_) => Form::Leaf(Leaf::FloatOperation),
-        NodeKind::Fbinary(_, _) => Form::Leaf(Leaf::FloatOperation),
-        NodeKind::Compare(op, l, r) => Form::Two(TwoStep::Compare(op), l, r),
-        NodeKind::Convert(op, e) => Form::One(OneStep::Convert(op), e),
-        NodeKind::Select(t, f, c) => Form::Select(t, f, c),
-        NodeKind::Address(p) => Form::Leaf(Leaf::Address(p)),
-        NodeKind::Offset(b, o) => Form::Two(TwoStep::Offset, b, o),
-        NodeKind::Aggregate(a, n) => Form::Aggregate(a, n),
-        NodeKind::Extract(e, i) => Form::One(OneStep::Extract(i), e),
-        NodeKind::Insert(e, i, w) => Form::Two(TwoStep::Insert(i), e, w),
-    }
-}
-
-// Node k.
-fn find_node(nodes: &[u64], lists: &[u64], counts: Counts, k: u64) -> Node
-    requires { Sized counts }
-    ensures { (rows : List ℕ) → Found (tables_of rows nodes.now lists.now counts) lists.now k result }
-{
-    let form = form_of(tables::node_at(nodes, lists, counts, k));
-    let ty = tables::node_type(nodes, lists, counts, k);
-    let line = tables::node_line(nodes, counts, k);
-    Node {
-        form,
-        at: At {
-            line,
-            node: NodeId(k),
-            ty,
-        },
-    }
-}
-
-// ---------------------------------------------------------------- steps over what is lowered
-
-// Floats have no bytes, and nothing is done with them.
-fn lower_leaf(
-    rows: &[u64],
-    nodes: &[u64],
-    lists: &[u64],
-    counts: Counts,
-    code: &mut [u8],
-    store: &mut [u8],
-    narrowed: &mut [u64],
-    stack: &mut [u64],
-    s: State,
-    leaf: Leaf,
-    depth: u64,
-    h: At,
-) -> Lowered
-    requires { (Readable (tables_of rows.now nodes.now lists.now counts)) × (StepRoom (tables_of rows.now nodes.now lists.now counts) h.node.0 h.ty s stack.old) }
-    ensures { MeetsValue (bufs code.old store.old narrowed.old stack.old) s (leaf_of (tables_of rows.now nodes.now lists.now counts) depth (at_of h) leaf nowhere (counters_in s)) (bufs code.new store.new narrowed.new stack.new) result }
-{
-    match leaf {
-        Leaf::Bool(v) => steps::lower_bool(s, v, h),
-        Leaf::Int(v) => steps::lower_integer(rows, counts, s, v, h.ty, h),
-        Leaf::Float => Lowered::Refused(23, h.line),
-        Leaf::FloatOperation => Lowered::Refused(24, h.line),
-        Leaf::Null => steps::lower_null(s, h),
-        Leaf::StaticAddress(k, o) => steps::lower_static_address(
-            rows, lists, counts, code, store, narrowed, s, k, o, h,
-        ),
-        Leaf::Function(f) => steps::lower_function_address(code, store, s, f),
-        Leaf::Read(p) => steps::lower_read(
-            rows, nodes, lists, counts, code, store, stack, s, depth, p, h.ty, h,
-        ),
-        Leaf::Address(p) => steps::lower_address_of(
-            rows, nodes, lists, counts, code, store, narrowed, s, depth, p, h,
-        ),
-    }
-}
-
-// Reinterpret alone keeps an aggregate's parts.
-fn convert(
-    rows: &[u64],
-    nodes: &[u64],
-    lists: &[u64],
-    counts: Counts,
-    code: &mut [u8],
-    store: &mut [u8],
-    stack: &mut [u64],
-    s: State,
-    s1: State,
-    op: u64,
-    v: Value,
-    h: At,
-) -> Lowered
-    requires { (Readable (tables_of rows.now nodes.now lists.now counts)) × (OneReady (tables_of rows.now nodes.now lists.now counts) h.node.0 h.ty s s1 v stack.old) }
-    ensures { (n : List ℕ) → BehindOne (tables_of rows.now nodes.now lists.now counts) (at_of h) (one.Convert op) s s1 v (bufs code.old store.old n stack.old) (bufs code.new store.new n stack.new) result }
-{
-    if conversions::is_reinterpret(op) {
-        return conversions::reinterpreted(rows, counts, s1, v, h);
-    }
-    conversions::lower_conversion(
-        rows,
-        nodes,
-        lists,
-        counts,
-        code,
-        store,
-        stack,
-        values::at_top(s1, s.top),
-        op,
-        v,
-        h,
-    )
-}
-
-// A node's own step over the value v, whose parts stand between the tops of s and s1.
-fn one_step(
-    rows: &[u64],
-    nodes: &[u64],
-    lists: &[u64],
-    counts: Counts,
-    code: &mut [u8],
-    store: &mut [u8],
-    stack: &mut [u64],
-    s: State,
-    s1: State,
-    step: OneStep,
-    v: Value,
-    h: At,
-) -> Lowered
-    requires { (Readable (tables_of rows.now nodes.now lists.now counts)) × (OneReady (tables_of rows.now nodes.now lists.now counts) h.node.0 h.ty s s1 v stack.old) }
-    ensures { (n : List ℕ) → BehindOne (tables_of rows.now nodes.now lists.now counts) (at_of h) step s s1 v (bufs code.old store.old n stack.old) (bufs code.new store.new n stack.new) result }
-{
-    let before = values::at_top(s1, s.top);
-    match step {
-        OneStep::Unary(op) => arithmetic::lower_integer_unary(
-            rows, nodes, lists, counts, code, store, stack, before, op, v, h,
-        ),
-        OneStep::Convert(op) => convert(
-            rows, nodes, lists, counts, code, store, stack, s, s1, op, v, h,
-        ),
-        OneStep::Extract(i) => parts::extract(stack, before, s1.top, v, i, h.line),
-    }
-}
-
-// Over two: the parts of l stand between the tops of s and s1, those of r between s1 and s2.
-fn two_step(
-    rows: &[u64],
-    nodes: &[u64],
-    lists: &[u64],
-    counts: Counts,
-    code: &mut [u8],
-    store: &mut [u8],
-    stack: &mut [u64],
-    s: State,
-    s1: State,
-    s2: State,
-    step: TwoStep,
-    l: Value,
-    r: Value,
-    h: At,
-) -> Lowered
-    requires { (Readable (tables_of rows.now nodes.now lists.now counts)) × (TwoReady (tables_of rows.now nodes.now lists.now counts) h.node.0 h.ty s s1 s2 l r stack.old) }
-    ensures { (n : List ℕ) → BehindTwo (tables_of rows.now nodes.now lists.now counts) (at_of h) step s s1 s2 l r (bufs code.old store.old n stack.old) (bufs code.new store.new n stack.new) result }
-{
-    let before = values::at_top(s2, s.top);
-    match step {
-        TwoStep::Binary(op) => arithmetic::lower_integer_binary(
-            rows, nodes, lists, counts, code, store, stack, before, op, l, r, h,
-        ),
-        TwoStep::Compare(op) => steps::lower_compare(
-            rows, lists, counts, code, store, before, op, l, r, h,
-        ),
-        TwoStep::Offset => conversions::lower_pointer_offset(code, store, before, l, r, h),
-        TwoStep::Insert(i) => parts::insert(stack, before, s1.top, s2.top, l, i, r, h.ty, h.line),
-    }
-}
-
-// ---------------------------------------------------------------- the cycle
-
-// The state in a step of another node.
-fn with_node(s: State, node: NodeId) -> State
-    ensures { result ≡ with_node s node }
-{
-    let c = s.counters;
-    State {
-        counters: Counters {
-            at: c.at,
-            instructions: c.instructions,
-            stored: c.stored,
-            storage: c.storage,
-            temporary: c.temporary,
-            node,
-        },
-        top: s.top,
-    }
-}
-
-// What a node has left, in a step of the node that it is a part of.
-fn restored(r: Lowered, node: NodeId) -> Lowered
-    ensures { result ≡ restored_of r node }
-{
-    match r {
-        Lowered::Refused(n, l) => Lowered::Refused(n, l),
-        Lowered::Done(v, s) => Lowered::Done(v, with_node(s, node)),
-    }
-}
-
-// The node of line k, its tree as deep as `depth`.
-#[cycle(expression_as_bit_lower_aggregate_lower_expression_lower_list_lower_one_lower_select_lower_two)]
+/// The node of line k, its tree as deep as `depth`.
+#[cycle(lower)]
 pub fn lower_expression(
-    rows: &[u64],
-    nodes: &[u64],
-    lists: &[u64],
-    counts: Counts,
-    code: &mut [u8],
-    store: &mut [u8],
-    narrowed: &mut [u64],
-    stack: &mut [u64],
-    s: State,
+    tables: &Tables<'_>,
+    l: &mut Lowering<'_>,
     k: u64,
     depth: u64,
-) -> Lowered
-    requires { (Readable (tables_of rows.now nodes.now lists.now counts)) × (TreeRoom (tables_of rows.now nodes.now lists.now counts) (expr_at depth (tables_of rows.now nodes.now lists.now counts) k) s stack.old) }
-    ensures { MeetsValue (bufs code.old store.old narrowed.old stack.old) s (lower_expression (tables_of rows.now nodes.now lists.now counts) (expr_at depth (tables_of rows.now nodes.now lists.now counts) k) nowhere (counters_in s)) (bufs code.new store.new narrowed.new stack.new) result }
+) -> Result<Value, Refused<Refusal>>
+    requires { TreeRoom (ticket_of tables.now) (expr_at depth (ticket_of tables.now) k) l.old }
+    ensures { MeetsValue l.old (lower_expression (ticket_of tables.now) (expr_at depth (ticket_of tables.now) k) nowhere (counters_in l.old)) l.new result }
 {
     if depth == 0 {
-        return steps::lower_null(
-            s,
-            At {
-                line: 0,
-                node: NodeId(0),
-                ty: 0,
-            },
-        );
+        return Ok(steps::lower_null(At {
+            line: 0,
+            node: NodeId(0),
+            ty: 0,
+        }));
     }
-    let node = find_node(nodes, lists, counts, k);
-    let h = node.at;
-    let form = node.form;
-    let outer = s.counters;
-    let before = outer.node;
-    let n = h.node;
-    let own = with_node(s, n);
-    match form {
-        Form::Leaf(leaf) => restored(
-            lower_leaf(
-                rows,
-                nodes,
-                lists,
-                counts,
-                code,
-                store,
-                narrowed,
-                stack,
-                own,
-                leaf,
-                depth - 1,
-                h,
-            ),
-            before,
-        ),
-        Form::One(step, e) => restored(
-            lower_one(
-                rows,
-                nodes,
-                lists,
-                counts,
-                code,
-                store,
-                narrowed,
-                stack,
-                own,
-                step,
-                e,
-                depth - 1,
-                h,
-            ),
-            before,
-        ),
-        Form::Two(step, l, r) => restored(
-            lower_two(
-                rows,
-                nodes,
-                lists,
-                counts,
-                code,
-                store,
-                narrowed,
-                stack,
-                own,
-                step,
-                l,
-                r,
-                depth - 1,
-                h,
-            ),
-            before,
-        ),
-        Form::Select(t, f, c) => restored(
-            lower_select(
-                rows,
-                nodes,
-                lists,
-                counts,
-                code,
-                store,
-                narrowed,
-                stack,
-                own,
-                t,
-                f,
-                c,
-                depth - 1,
-                h,
-            ),
-            before,
-        ),
-        Form::Aggregate(a, n) => restored(
-            lower_aggregate(
-                rows,
-                nodes,
-                lists,
-                counts,
-                code,
-                store,
-                narrowed,
-                stack,
-                own,
-                a,
-                n,
-                depth - 1,
-                h,
-            ),
-            before,
-        ),
+    let h = At {
+        line: tables.node_line(k),
+        node: NodeId(k),
+        ty: tables.node_type(k),
+    };
+    let outer = l.out.node;
+    l.out.node = h.node;
+    let value = lower_node(tables, l, tables.node_at(k), depth - 1, h)?;
+    l.out.node = outer;
+    Ok(value)
+}
+
+// A node by its kind. Floats have no bytes, and nothing is done with them.
+#[cycle(lower)]
+fn lower_node(
+    tables: &Tables<'_>,
+    l: &mut Lowering<'_>,
+    kind: NodeKind,
+    depth: u64,
+    h: At,
+) -> Result<Value, Refused<Refusal>>
+    requires { NodeRoom (ticket_of tables.now) h.node.0 (tree_of (ticket_of tables.now) tables.now.lists.now depth (at_of h) kind) l.old }
+    ensures { MeetsValue l.old (lower_expression (ticket_of tables.now) (tree_of (ticket_of tables.now) tables.now.lists.now depth (at_of h) kind) nowhere (counters_in l.old)) l.new result }
+{
+    match kind {
+        NodeKind::Bool(v) => Ok(steps::lower_bool(v, h)),
+        NodeKind::Int(v) => steps::lower_integer(tables, v, h.ty, h),
+        NodeKind::F32(_) | NodeKind::F64(_) => Err(h.refuse(Refusal::UnsupportedType)),
+        NodeKind::Null => Ok(steps::lower_null(h)),
+        NodeKind::StaticAddress(k, o) => steps::lower_static_address(tables, l, k, o, h),
+        NodeKind::Function(f) => Ok(steps::lower_function_address(l, f)),
+        NodeKind::Read(p) => steps::lower_read(tables, l, depth, p, h.ty, h),
+        NodeKind::Unary(op, e) => {
+            let operand = lower_head(tables, l, e, depth)?;
+            arithmetic::lower_integer_unary(tables, l, op, operand, h)
+        }
+        NodeKind::Binary(op, a, b) => {
+            let left = lower_head(tables, l, a, depth)?;
+            let right = lower_head(tables, l, b, depth)?;
+            arithmetic::lower_integer_binary(tables, l, op, left, right, h)
+        }
+        NodeKind::Funary(_) | NodeKind::Fbinary(_, _) => {
+            Err(h.refuse(Refusal::UnsupportedExpression))
+        }
+        NodeKind::Compare(op, a, b) => {
+            let left = lower_head(tables, l, a, depth)?;
+            let right = lower_head(tables, l, b, depth)?;
+            steps::lower_compare(tables, l, op, left, right, h)
+        }
+        NodeKind::Convert(op, e) => lower_conversion(tables, l, op, e, depth, h),
+        NodeKind::Select(t, f, c) => lower_select(tables, l, t, f, c, depth, h),
+        NodeKind::Address(p) => steps::lower_address_of(tables, l, depth, p, h),
+        NodeKind::Offset(b, o) => {
+            let base = lower_head(tables, l, b, depth)?;
+            let offset = lower_head(tables, l, o, depth)?;
+            conversions::lower_pointer_offset(l, base, offset, h)
+        }
+        NodeKind::Aggregate(start, n) => lower_aggregate(tables, l, start, n, depth, h),
+        NodeKind::Extract(e, i) => lower_extract(tables, l, e, i, depth, h),
+        NodeKind::Insert(e, i, w) => lower_insert(tables, l, e, i, w, depth, h),
     }
 }
 
-#[cycle(expression_as_bit_lower_aggregate_lower_expression_lower_list_lower_one_lower_select_lower_two)]
-fn lower_one(
-    rows: &[u64],
-    nodes: &[u64],
-    lists: &[u64],
-    counts: Counts,
-    code: &mut [u8],
-    store: &mut [u8],
-    narrowed: &mut [u64],
-    stack: &mut [u64],
-    s: State,
-    step: OneStep,
+// A node for a step that looks at its value's head alone; the parts are let go.
+#[cycle(lower)]
+fn lower_head(
+    tables: &Tables<'_>,
+    l: &mut Lowering<'_>,
+    k: u64,
+    depth: u64,
+) -> Result<Value, Refused<Refusal>>
+    requires { TreeRoom (ticket_of tables.now) (expr_at depth (ticket_of tables.now) k) l.old }
+    ensures { MeetsHead l.old (lower_expression (ticket_of tables.now) (expr_at depth (ticket_of tables.now) k) nowhere (counters_in l.old)) l.new result }
+{
+    let top = l.top;
+    let value = lower_expression(tables, l, k, depth)?;
+    l.top = top;
+    Ok(value)
+}
+
+// A value under another type keeps its parts.
+#[cycle(lower)]
+fn lower_conversion(
+    tables: &Tables<'_>,
+    l: &mut Lowering<'_>,
+    op: u64,
     e: u64,
     depth: u64,
     h: At,
-) -> Lowered
-    requires { (Readable (tables_of rows.now nodes.now lists.now counts)) × (FormRoom (tables_of rows.now nodes.now lists.now counts) lists.now depth h.node.0 h.ty (form.One step e) s stack.old) }
-    ensures { MeetsValue (bufs code.old store.old narrowed.old stack.old) s (lower_form (tables_of rows.now nodes.now lists.now counts) lists.now depth (at_of h) (form.One step e) nowhere (counters_in s)) (bufs code.new store.new narrowed.new stack.new) result }
+) -> Result<Value, Refused<Refusal>>
+    requires { NodeRoom (ticket_of tables.now) h.node.0 (convert (at_of h) (ticket.conversion_op op) (expr_at depth (ticket_of tables.now) e)) l.old }
+    ensures { MeetsValue l.old (lower_expression (ticket_of tables.now) (convert (at_of h) (ticket.conversion_op op) (expr_at depth (ticket_of tables.now) e)) nowhere (counters_in l.old)) l.new result }
 {
-    match lower_expression(
-        rows, nodes, lists, counts, code, store, narrowed, stack, s, e, depth,
-    ) {
-        Lowered::Refused(n, m) => Lowered::Refused(n, m),
-        Lowered::Done(v, s1) => one_step(
-            rows, nodes, lists, counts, code, store, stack, s, s1, step, v, h,
-        ),
+    if conversions::is_reinterpret(op) {
+        let whole = lower_expression(tables, l, e, depth)?;
+        return conversions::reinterpreted(tables, whole, h);
     }
-}
-
-#[cycle(expression_as_bit_lower_aggregate_lower_expression_lower_list_lower_one_lower_select_lower_two)]
-fn lower_two(
-    rows: &[u64],
-    nodes: &[u64],
-    lists: &[u64],
-    counts: Counts,
-    code: &mut [u8],
-    store: &mut [u8],
-    narrowed: &mut [u64],
-    stack: &mut [u64],
-    s: State,
-    step: TwoStep,
-    l: u64,
-    r: u64,
-    depth: u64,
-    h: At,
-) -> Lowered
-    requires { (Readable (tables_of rows.now nodes.now lists.now counts)) × (FormRoom (tables_of rows.now nodes.now lists.now counts) lists.now depth h.node.0 h.ty (form.Two step l r) s stack.old) }
-    ensures { MeetsValue (bufs code.old store.old narrowed.old stack.old) s (lower_form (tables_of rows.now nodes.now lists.now counts) lists.now depth (at_of h) (form.Two step l r) nowhere (counters_in s)) (bufs code.new store.new narrowed.new stack.new) result }
-{
-    match lower_expression(
-        rows, nodes, lists, counts, code, store, narrowed, stack, s, l, depth,
-    ) {
-        Lowered::Refused(n, m) => Lowered::Refused(n, m),
-        Lowered::Done(left, s1) => match lower_expression(
-            rows, nodes, lists, counts, code, store, narrowed, stack, s1, r, depth,
-        ) {
-            Lowered::Refused(n, m) => Lowered::Refused(n, m),
-            Lowered::Done(right, s2) => two_step(
-                rows, nodes, lists, counts, code, store, stack, s, s1, s2, step, left, right, h,
-            ),
-        },
-    }
+    let operand = lower_head(tables, l, e, depth)?;
+    conversions::lower_conversion(tables, l, op, operand, h)
 }
 
 // Both arms are lowered, and then the condition.
-#[cycle(expression_as_bit_lower_aggregate_lower_expression_lower_list_lower_one_lower_select_lower_two)]
+#[cycle(lower)]
 fn lower_select(
-    rows: &[u64],
-    nodes: &[u64],
-    lists: &[u64],
-    counts: Counts,
-    code: &mut [u8],
-    store: &mut [u8],
-    narrowed: &mut [u64],
-    stack: &mut [u64],
-    s: State,
+    tables: &Tables<'_>,
+    l: &mut Lowering<'_>,
     t: u64,
     f: u64,
     c: u64,
     depth: u64,
     h: At,
-) -> Lowered
-    requires { (Readable (tables_of rows.now nodes.now lists.now counts)) × (FormRoom (tables_of rows.now nodes.now lists.now counts) lists.now depth h.node.0 h.ty (form.Select t f c) s stack.old) }
-    ensures { MeetsValue (bufs code.old store.old narrowed.old stack.old) s (lower_form (tables_of rows.now nodes.now lists.now counts) lists.now depth (at_of h) (form.Select t f c) nowhere (counters_in s)) (bufs code.new store.new narrowed.new stack.new) result }
+) -> Result<Value, Refused<Refusal>>
+    requires { NodeRoom (ticket_of tables.now) h.node.0 (select (at_of h) (expr_at depth (ticket_of tables.now) t) (expr_at depth (ticket_of tables.now) f) (expr_at depth (ticket_of tables.now) c)) l.old }
+    ensures { MeetsValue l.old (lower_expression (ticket_of tables.now) (select (at_of h) (expr_at depth (ticket_of tables.now) t) (expr_at depth (ticket_of tables.now) f) (expr_at depth (ticket_of tables.now) c)) nowhere (counters_in l.old)) l.new result }
 {
-    match lower_expression(
-        rows, nodes, lists, counts, code, store, narrowed, stack, s, t, depth,
-    ) {
-        Lowered::Refused(x, y) => Lowered::Refused(x, y),
-        Lowered::Done(yes, s1) => match lower_expression(
-            rows, nodes, lists, counts, code, store, narrowed, stack, s1, f, depth,
-        ) {
-            Lowered::Refused(n, m) => Lowered::Refused(n, m),
-            Lowered::Done(no, s2) => match expression_as_bit(
-                rows, nodes, lists, counts, code, store, narrowed, stack, s2, c, depth, h,
-            ) {
-                BitLowered::Refused(n, m) => Lowered::Refused(n, m),
-                BitLowered::Done(bit, s3) => selects::lower_select(
-                    rows,
-                    nodes,
-                    lists,
-                    counts,
-                    code,
-                    store,
-                    stack,
-                    values::at_top(s3, s.top),
-                    bit,
-                    yes,
-                    no,
-                    s1.top,
-                    s2.top,
-                    h,
-                ),
-            },
-        },
-    }
+    let top = l.top;
+    let yes = lower_expression(tables, l, t, depth)?;
+    let middle = l.top;
+    let no = lower_expression(tables, l, f, depth)?;
+    let end = l.top;
+    let condition = lower_head(tables, l, c, depth)?;
+    let bit = steps::value_as_bit(tables, l, condition, h)?;
+    l.top = top;
+    selects::lower_select(tables, l, bit, yes, no, middle, end, h)
 }
 
-#[cycle(expression_as_bit_lower_aggregate_lower_expression_lower_list_lower_one_lower_select_lower_two)]
+// The n nodes of a list, each above its own head's record.
+#[cycle(lower)]
 fn lower_aggregate(
-    rows: &[u64],
-    nodes: &[u64],
-    lists: &[u64],
-    counts: Counts,
-    code: &mut [u8],
-    store: &mut [u8],
-    narrowed: &mut [u64],
-    stack: &mut [u64],
-    s: State,
-    a: u64,
+    tables: &Tables<'_>,
+    l: &mut Lowering<'_>,
+    start: u64,
     n: u64,
     depth: u64,
     h: At,
-) -> Lowered
-    requires { (Readable (tables_of rows.now nodes.now lists.now counts)) × (FormRoom (tables_of rows.now nodes.now lists.now counts) lists.now depth h.node.0 h.ty (form.Aggregate a n) s stack.old) }
-    ensures { MeetsValue (bufs code.old store.old narrowed.old stack.old) s (lower_form (tables_of rows.now nodes.now lists.now counts) lists.now depth (at_of h) (form.Aggregate a n) nowhere (counters_in s)) (bufs code.new store.new narrowed.new stack.new) result }
+) -> Result<Value, Refused<Refusal>>
+    requires { NodeRoom (ticket_of tables.now) h.node.0 (aggregate (at_of h) (kids (ticket_of tables.now) tables.now.lists.now depth start n)) l.old }
+    ensures { MeetsValue l.old (lower_expression (ticket_of tables.now) (aggregate (at_of h) (kids (ticket_of tables.now) tables.now.lists.now depth start n)) nowhere (counters_in l.old)) l.new result }
 {
-    let listed = lower_list(
-        rows, nodes, lists, counts, code, store, narrowed, stack, s, a, 0, n, depth,
-    );
-    reads::gathered(h.ty, n, s.top, listed)
+    let from = l.top;
+    for i in 0..n {
+        let top = l.top;
+        l.top += 8;
+        let part = lower_expression(tables, l, tables.list_at(start, i), depth)?;
+        values::store8(l.stack, top, values::value_words(part));
+    }
+    let records = (l.top - from) / 8;
+    Ok(Value {
+        ty: h.ty,
+        repr: Repr::Aggregate(n, records as u64),
+    })
 }
 
-// The n nodes from word i of a run of the lists on, each above its own head's record.
-#[cycle(expression_as_bit_lower_aggregate_lower_expression_lower_list_lower_one_lower_select_lower_two)]
-fn lower_list(
-    rows: &[u64],
-    nodes: &[u64],
-    lists: &[u64],
-    counts: Counts,
-    code: &mut [u8],
-    store: &mut [u8],
-    narrowed: &mut [u64],
-    stack: &mut [u64],
-    s: State,
-    a: u64,
+// Part i of a node's value.
+#[cycle(lower)]
+fn lower_extract(
+    tables: &Tables<'_>,
+    l: &mut Lowering<'_>,
+    e: u64,
     i: u64,
-    n: u64,
-    depth: u64,
-) -> Listed
-    requires { (Readable (tables_of rows.now nodes.now lists.now counts)) × (ListRoom (tables_of rows.now nodes.now lists.now counts) (kids (tables_of rows.now nodes.now lists.now counts) lists.now depth (a + i) n) s stack.old) × (i + n ≤ 4611686018427387904) }
-    ensures { MeetsList n (bufs code.old store.old narrowed.old stack.old) s (lower_expressions (tables_of rows.now nodes.now lists.now counts) (kids (tables_of rows.now nodes.now lists.now counts) lists.now depth (a + i) n) nowhere (counters_in s)) (bufs code.new store.new narrowed.new stack.new) result }
-{
-    // m nodes are left, from word j on.
-    let mut t = s;
-    let mut j = i;
-    let mut m = n;
-    while m != 0 {
-        let top = t.top;
-        let k = tables::list_at(lists, a, j);
-        match lower_expression(
-            rows,
-            nodes,
-            lists,
-            counts,
-            code,
-            store,
-            narrowed,
-            stack,
-            values::at_top(t, top + 8),
-            k,
-            depth,
-        ) {
-            Lowered::Refused(x, y) => {
-                return Listed::Refused(x, y);
-            }
-            Lowered::Done(v, s1) => {
-                reads::store_head(stack, top, v);
-                t = s1;
-                j += 1;
-                m -= 1;
-            }
-        }
-    }
-    Listed::Done(t)
-}
-
-// A node's value as a bit, by the own step of the node h.
-#[cycle(expression_as_bit_lower_aggregate_lower_expression_lower_list_lower_one_lower_select_lower_two)]
-fn expression_as_bit(
-    rows: &[u64],
-    nodes: &[u64],
-    lists: &[u64],
-    counts: Counts,
-    code: &mut [u8],
-    store: &mut [u8],
-    narrowed: &mut [u64],
-    stack: &mut [u64],
-    s: State,
-    k: u64,
     depth: u64,
     h: At,
-) -> BitLowered
-    requires { (Readable (tables_of rows.now nodes.now lists.now counts)) × (TreeRoom (tables_of rows.now nodes.now lists.now counts) (expr_at depth (tables_of rows.now nodes.now lists.now counts) k) s stack.old) × (h.node.0 ≡ s.counters.node.0) }
-    ensures { MeetsBit (bufs code.old store.old narrowed.old stack.old) s (expression_as_bit (tables_of rows.now nodes.now lists.now counts) (at_of h) (expr_at depth (tables_of rows.now nodes.now lists.now counts) k) nowhere (counters_in s)) (bufs code.new store.new narrowed.new stack.new) result }
+) -> Result<Value, Refused<Refusal>>
+    requires { NodeRoom (ticket_of tables.now) h.node.0 (extract_element (at_of h) (expr_at depth (ticket_of tables.now) e) i) l.old }
+    ensures { MeetsValue l.old (lower_expression (ticket_of tables.now) (extract_element (at_of h) (expr_at depth (ticket_of tables.now) e) i) nowhere (counters_in l.old)) l.new result }
 {
-    match lower_expression(
-        rows, nodes, lists, counts, code, store, narrowed, stack, s, k, depth,
-    ) {
-        Lowered::Refused(n, m) => BitLowered::Refused(n, m),
-        Lowered::Done(v, s1) => steps::value_as_bit(
-            rows,
-            lists,
-            counts,
-            code,
-            store,
-            values::at_top(s1, s.top),
-            v,
-            h,
-        ),
-    }
+    let top = l.top;
+    let whole = lower_expression(tables, l, e, depth)?;
+    let (part, end) = parts::extract(l.stack, top, l.top, whole, i).ok_or(h.refuse(
+        Refusal::UnsupportedExpression,
+    ))?;
+    l.top = end;
+    Ok(part)
+}
+
+// A node's value with another's for its part i.
+#[cycle(lower)]
+fn lower_insert(
+    tables: &Tables<'_>,
+    l: &mut Lowering<'_>,
+    e: u64,
+    i: u64,
+    w: u64,
+    depth: u64,
+    h: At,
+) -> Result<Value, Refused<Refusal>>
+    requires { NodeRoom (ticket_of tables.now) h.node.0 (insert_element (at_of h) (expr_at depth (ticket_of tables.now) e) i (expr_at depth (ticket_of tables.now) w)) l.old }
+    ensures { MeetsValue l.old (lower_expression (ticket_of tables.now) (insert_element (at_of h) (expr_at depth (ticket_of tables.now) e) i (expr_at depth (ticket_of tables.now) w)) nowhere (counters_in l.old)) l.new result }
+{
+    let top = l.top;
+    let whole = lower_expression(tables, l, e, depth)?;
+    let middle = l.top;
+    let part = lower_expression(tables, l, w, depth)?;
+    let (changed, end) = parts::insert(l.stack, top, middle, l.top, whole, i, part, h.ty).ok_or(
+        h.refuse(Refusal::UnsupportedExpression),
+    )?;
+    l.top = end;
+    Ok(changed)
 }

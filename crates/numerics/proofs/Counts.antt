@@ -1,11 +1,10 @@
 -- The counts of bits at every width, by those of 64 bits.
-use Rattle.std.proofs.Common.{◌≡◌, ℕ, zero, suc, ◌+◌, ◌-◌, ◌*◌, ◌/◌, ◌%◌, ◌^◌, ◌<◌, ◌≤◌, min, max, Bool, true, false, eqb, sym, refl, ap, ◌∙◌, zero-le, arith, eqb-true}
+use Rattle.std.proofs.Common.{◌≡◌, ℕ, zero, suc, ◌+◌, ◌-◌, ◌*◌, ◌/◌, ◌%◌, ◌^◌, ◌<◌, ◌≤◌, min, max, Bool, true, false, eqb, sym, refl, ap, ◌∙◌, zero-le, mod-lt, arith, pow_pos, eqb-true}
 use borrow.Author.Tests.{eqb-false}
 use lib.Count as C
 use lib.Count.{ones_step, under, leading_unique}
-use Rattle.numerics.specs.Numerics.{significant, trailing, ones, iclz}
-use Rattle.numerics.specs.Functions.{Width}
-use Rattle.numerics.proofs.Modulo.{low_lt}
+use Rattle.numerics.specs.Numerics.{significant, trailing, ones}
+use Rattle.numerics.specs.Functions.{IsWidth}
 
 -- half of a number has a bit less
 half_lt : (n i : ℕ) → i < 2 ^ suc n → i / 2 < 2 ^ n
@@ -19,7 +18,7 @@ unfolding C.ones
 none = refl
 
 -- all ones of a number below 2 ^ n are among its n lowest bits
-pub ones_is : (n i : ℕ) → i < 2 ^ n → C.ones i ≡ ones n i
+ones_is : (n i : ℕ) → i < 2 ^ n → C.ones i ≡ ones n i
 unfolding ones
 ones_is zero i h = rw (let e : i ≡ 0 = omega arith in e) none
 ones_is (suc n) i h = ones_step i ∙ ap (λ (x : ℕ). i % 2 + x) (ones_is n (i / 2) (half_lt n i h))
@@ -27,7 +26,7 @@ ones_is (suc n) i h = ones_step i ∙ ap (λ (x : ℕ). i % 2 + x) (ones_is n (i
 -- ---------------------------------------------------------------- trailing zeros
 
 -- of k digits, no fewer than n: the count of the n lowest stops at n
-pub trailing_is : (k n i : ℕ) → n ≤ k → min (C.count_trailing_zeros k i) n ≡ trailing n i
+trailing_is : (k n i : ℕ) → n ≤ k → min (C.count_trailing_zeros k i) n ≡ trailing n i
 unfolding trailing C.count_trailing_zeros
 trailing_is k zero i h = omega arith
 trailing_is zero (suc n) i h = absurd (omega arith)
@@ -63,18 +62,25 @@ length_is (suc n) i h = go (eqb i 0) refl (length_is n (i / 2) (half_lt n i h))
     go false e p = let z = eqb-false i 0 e in (omega arith, omega arith)
 
 -- the significant bits and the leading zeros of 64 make 64
-leading_is : (n i : ℕ) → Width n → i < 2 ^ n → C.count_leading_zeros 64 i ≡ 64 - significant n i
+leading_is : (n i : ℕ) → IsWidth n → i < 2 ^ n → C.count_leading_zeros 64 i ≡ 64 - significant n i
 leading_is n i w h =
     let l = length_is n i h in
     let m = significant_le n i in
     sym (leading_unique 64 i (64 - significant n i) (significant n i) (omega arith) l.0 (omega arith))
 
-module _ (N a x : ℕ) (w : Width N) (e : x ≡ a % 2 ^ N) where
+module _ (N a : ℕ) (w : IsWidth N) where
   -- the 64 - N bits above the width are leading zeros ..
-  pub leading_enough : 64 - N ≤ C.count_leading_zeros 64 x
-  leading_enough = omega (arith, leading_is N x w (low_lt N x a e), significant_le N x)
+  pub leading_enough : 64 - N ≤ C.count_leading_zeros 64 (a % 2 ^ N)
+  leading_enough = omega (arith, leading_is N (a % 2 ^ N) w (mod-lt a (pow_pos N)), significant_le N (a % 2 ^ N))
 
   -- .. and without them the rest are the width's own
-  pub clz_is : C.count_leading_zeros 64 x - (64 - N) ≡ iclz N (a % 2 ^ N)
-  unfolding iclz
-  clz_is = rw (← e, leading_is N x w (low_lt N x a e)) (omega (arith, significant_le N x))
+  pub leading_left : C.count_leading_zeros 64 (a % 2 ^ N) - (64 - N) ≡ N - significant N (a % 2 ^ N)
+  leading_left = rw (leading_is N (a % 2 ^ N) w (mod-lt a (pow_pos N))) (omega (arith, significant_le N (a % 2 ^ N)))
+
+  -- all 64 where no bit is set, and then N
+  pub trailing_left : min (C.count_trailing_zeros 64 (a % 2 ^ N)) N ≡ trailing N (a % 2 ^ N)
+  trailing_left = trailing_is 64 N (a % 2 ^ N) w.fits
+
+  -- a number of N bits has no others set
+  pub ones_left : C.ones (a % 2 ^ N) ≡ ones N (a % 2 ^ N)
+  ones_left = ones_is N (a % 2 ^ N) (mod-lt a (pow_pos N))

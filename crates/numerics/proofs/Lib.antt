@@ -1,8 +1,5 @@
 -- Laws that the functions' proofs cite, each stated over the width.
-pub mod Answers
 pub mod Modulo
-pub mod Difference
-pub mod Reading
-pub mod Quotients
+pub mod Signed
 pub mod Moves
 pub mod Counts

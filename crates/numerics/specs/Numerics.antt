@@ -1,7 +1,7 @@
 -- WebAssembly Core Specification, chapter Numerics, "Integer Operations", at a width N. The operands i and j are numbers
 -- below 2 ^ N; so is every result but a truth value, which is 0 or 1. Where the specification leaves a result undefined, it is `none`.
 use Rattle.std.specs.Prelude.{ℕ, zero, suc, ◌+◌, ◌-◌, ◌*◌, ◌/◌, ◌%◌, ◌^◌, min, Bool, true, false, not, ℤ, pos, negsuc, ◌+ℤ◌, ◌-ℤ◌, ◌==◌, bit_and, bit_or, bit_xor, int_div, int_le, int_lt, int_rem, nat_le, nat_lt}
-use Rattle.std.proofs.Math.Option.{Option, none, some}
+use Rattle.std.specs.Prelude.{Option, None, Some}
 use Rattle.std.proofs.Math.IntN.{sub_ℕ}
 
 -- a condition as a number: 1 if it holds, 0 if not
@@ -11,7 +11,7 @@ truth false = 0
 
 -- undefined where the condition holds
 abbrev pub undefined_if : Bool → Option ℕ → Option ℕ
-undefined_if true r = none
+undefined_if true r = None
 undefined_if false r = r
 
 -- ---------------------------------------------------------------- signed readings
@@ -55,20 +55,20 @@ unfoldable pub imul : ℕ → ℕ → ℕ → ℕ
 imul N i j = (i * j) % 2 ^ N
 
 unfoldable pub idiv_u : ℕ → ℕ → ℕ → Option ℕ
-idiv_u N i j = undefined_if (j == 0) (some (i / j))
+idiv_u N i j = undefined_if (j == 0) (Some (i / j))
 
 -- undefined also for the quotient 2 ^ (N - 1), which has no signed reading
 unfoldable pub idiv_s : ℕ → ℕ → ℕ → Option ℕ
 idiv_s N i j =
     let q : ℤ = int_div (signed N i) (signed N j) in
-    undefined_if (j == 0) (undefined_if (equals q (2 ^ (N - 1))) (some (unsigned N q)))
+    undefined_if (j == 0) (undefined_if (equals q (2 ^ (N - 1))) (Some (unsigned N q)))
 
 unfoldable pub irem_u : ℕ → ℕ → ℕ → Option ℕ
-irem_u N i j = undefined_if (j == 0) (some (i % j))
+irem_u N i j = undefined_if (j == 0) (Some (i % j))
 
 -- with the dividend's sign
 unfoldable pub irem_s : ℕ → ℕ → ℕ → Option ℕ
-irem_s N i j = undefined_if (j == 0) (some (unsigned N (int_rem (signed N i) (signed N j))))
+irem_s N i j = undefined_if (j == 0) (Some (unsigned N (int_rem (signed N i) (signed N j))))
 
 unfoldable pub ineg : ℕ → ℕ → ℕ
 ineg N i = (2 ^ N - i) % 2 ^ N

@@ -1,109 +1,81 @@
 // Tests and comparisons: 1 if it holds, 0 if not.
-ghost use Rattle.std.specs.Prelude.{◌≡◌, ◌==◌, nat_le, nat_lt};
+ghost use Rattle.std.specs.Prelude.{◌≡◌};
 ghost use Rattle.numerics.specs.Numerics as wasm;
 ghost use Rattle.numerics.specs.Functions.{unary_at, binary_at};
 
-use super::width::{biased, low};
+use super::width::Width;
 
-fn same(x: u64, y: u64) -> u64
-    ensures { result ≡ wasm.truth (x == y) }
-{
-    if x == y { 1 } else { 0 }
-}
-
-fn less(x: u64, y: u64) -> u64
-    ensures { result ≡ wasm.truth (nat_lt x y) }
-{
-    if x < y { 1 } else { 0 }
-}
-
-fn at_most(x: u64, y: u64) -> u64
-    ensures { result ≡ wasm.truth (nat_le x y) }
-{
-    if x <= y { 1 } else { 0 }
-}
-
+#[tactic(auto, unfolding(crate::specs::Functions::unary_at, crate::specs::Numerics::ieqz))]
 pub fn ieqz(n: u64, a: u64) -> u64
     ensures { result ≡ unary_at wasm.ieqz n a }
 {
-    match n {
-        1..=64 => same(low(n, a), 0),
-        _ => 0,
-    }
+    Width::new(n).map_or(0, |w| u64::from(w.low(a) == 0))
 }
 
+#[tactic(auto, unfolding(crate::specs::Functions::binary_at, crate::specs::Numerics::ieq))]
 pub fn ieq(n: u64, a: u64, b: u64) -> u64
     ensures { result ≡ binary_at wasm.ieq n a b }
 {
-    match n {
-        1..=64 => same(low(n, a), low(n, b)),
-        _ => 0,
-    }
+    Width::new(n).map_or(0, |w| u64::from(w.low(a) == w.low(b)))
 }
 
+#[tactic(auto, unfolding(crate::specs::Functions::binary_at, crate::specs::Numerics::ine))]
 pub fn ine(n: u64, a: u64, b: u64) -> u64
     ensures { result ≡ binary_at wasm.ine n a b }
 {
-    match n {
-        1..=64 => same(same(low(n, a), low(n, b)), 0),
-        _ => 0,
-    }
+    Width::new(n).map_or(0, |w| u64::from(w.low(a) != w.low(b)))
 }
 
+#[tactic(auto, unfolding(crate::specs::Functions::binary_at, crate::specs::Numerics::ilt_u))]
 pub fn ilt_u(n: u64, a: u64, b: u64) -> u64
     ensures { result ≡ binary_at wasm.ilt_u n a b }
 {
-    match n {
-        1..=64 => less(low(n, a), low(n, b)),
-        _ => 0,
-    }
+    Width::new(n).map_or(0, |w| u64::from(w.low(a) < w.low(b)))
 }
 
+#[tactic(auto, unfolding(crate::specs::Functions::binary_at, crate::specs::Numerics::ile_u))]
 pub fn ile_u(n: u64, a: u64, b: u64) -> u64
     ensures { result ≡ binary_at wasm.ile_u n a b }
 {
-    match n {
-        1..=64 => at_most(low(n, a), low(n, b)),
-        _ => 0,
-    }
+    Width::new(n).map_or(0, |w| u64::from(w.low(a) <= w.low(b)))
 }
 
+#[tactic(auto, unfolding(crate::specs::Functions::binary_at, crate::specs::Numerics::ilt_s))]
 pub fn ilt_s(n: u64, a: u64, b: u64) -> u64
     ensures { result ≡ binary_at wasm.ilt_s n a b }
 {
-    match n {
-        1..=64 => less(biased(n, a), biased(n, b)),
-        _ => 0,
-    }
+    Width::new(n).map_or(0, |w| u64::from(w.signed(a) < w.signed(b)))
 }
 
+#[tactic(auto, unfolding(crate::specs::Functions::binary_at, crate::specs::Numerics::ile_s))]
 pub fn ile_s(n: u64, a: u64, b: u64) -> u64
     ensures { result ≡ binary_at wasm.ile_s n a b }
 {
-    match n {
-        1..=64 => at_most(biased(n, a), biased(n, b)),
-        _ => 0,
-    }
+    Width::new(n).map_or(0, |w| u64::from(w.signed(a) <= w.signed(b)))
 }
 
+#[tactic(auto, unfolding(crate::specs::Functions::binary_at, crate::specs::Numerics::igt_u, crate::specs::Numerics::ilt_u))]
 pub fn igt_u(n: u64, a: u64, b: u64) -> u64
     ensures { result ≡ binary_at wasm.igt_u n a b }
 {
     ilt_u(n, b, a)
 }
 
+#[tactic(auto, unfolding(crate::specs::Functions::binary_at, crate::specs::Numerics::ige_u, crate::specs::Numerics::ile_u))]
 pub fn ige_u(n: u64, a: u64, b: u64) -> u64
     ensures { result ≡ binary_at wasm.ige_u n a b }
 {
     ile_u(n, b, a)
 }
 
+#[tactic(auto, unfolding(crate::specs::Functions::binary_at, crate::specs::Numerics::igt_s, crate::specs::Numerics::ilt_s))]
 pub fn igt_s(n: u64, a: u64, b: u64) -> u64
     ensures { result ≡ binary_at wasm.igt_s n a b }
 {
     ilt_s(n, b, a)
 }
 
+#[tactic(auto, unfolding(crate::specs::Functions::binary_at, crate::specs::Numerics::ige_s, crate::specs::Numerics::ile_s))]
 pub fn ige_s(n: u64, a: u64, b: u64) -> u64
     ensures { result ≡ binary_at wasm.ige_s n a b }
 {

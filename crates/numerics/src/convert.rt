@@ -3,50 +3,25 @@ ghost use Rattle.std.specs.Prelude.{◌≡◌};
 ghost use Rattle.numerics.specs.Numerics as wasm;
 ghost use Rattle.numerics.specs.Functions.{narrowing_at, widening_at};
 
-use super::arithmetic::isub;
-use super::width::{biased, half, low};
+use super::width::Width;
 
+#[tactic(auto, using(crate::proofs::Modulo::narrowed), unfolding(crate::specs::Functions::narrowing_at, crate::specs::Numerics::wrap))]
 pub fn wrap(m: u64, n: u64, a: u64) -> u64
     ensures { result ≡ narrowing_at wasm.wrap m n a }
 {
-    if n < 1 {
-        return 0;
-    }
-    if m < n {
-        return 0;
-    }
-    if 64 < m {
-        return 0;
-    }
-    low(n, a)
+    Width::pair(n, m).map_or(0, |(narrow, _)| narrow.low(a))
 }
 
+#[tactic(auto, unfolding(crate::specs::Functions::widening_at, crate::specs::Numerics::extend_u))]
 pub fn extend_u(m: u64, n: u64, a: u64) -> u64
     ensures { result ≡ widening_at wasm.extend_u m n a }
 {
-    if m < 1 {
-        return 0;
-    }
-    if n < m {
-        return 0;
-    }
-    if 64 < n {
-        return 0;
-    }
-    low(m, a)
+    Width::pair(m, n).map_or(0, |(narrow, _)| narrow.low(a))
 }
 
+#[tactic(auto, unfolding(crate::specs::Functions::widening_at, crate::specs::Numerics::extend_s))]
 pub fn extend_s(m: u64, n: u64, a: u64) -> u64
     ensures { result ≡ widening_at wasm.extend_s m n a }
 {
-    if m < 1 {
-        return 0;
-    }
-    if n < m {
-        return 0;
-    }
-    if 64 < n {
-        return 0;
-    }
-    isub(n, biased(m, a), half(m))
+    Width::pair(m, n).map_or(0, |(narrow, wide)| wide.unsigned(narrow.signed(a)))
 }

@@ -1,56 +1,36 @@
 // Sums and differences that stop at the ends of the range.
-ghost use Rattle.std.specs.Prelude.{◌≡◌, ◌+◌, ◌-◌, ◌^◌, ◌<◌, min};
+ghost use Rattle.std.specs.Prelude.{◌≡◌};
 ghost use Rattle.numerics.specs.Numerics as wasm;
-ghost use Rattle.numerics.specs.Functions.{Width, binary_at};
+ghost use Rattle.numerics.specs.Functions.{binary_at};
 
-use super::width::{all_ones, biased, half, low};
+use super::width::Width;
 
-// x + y - z, or the nearest number from 0 to 2^n - 1.
-fn clamped(n: u64, x: u64, y: u64, z: u64) -> u64
-    requires { (Width n) × ((x < 2 ^ n) × ((y < 2 ^ n) × (z < 2 ^ n))) }
-    ensures { result ≡ min (x + y - z) (2 ^ n - 1) }
-{
-    let top = all_ones(n);
-    if z <= x {
-        if top - y < x - z { top } else { x - z + y }
-    } else {
-        if y < z - x { 0 } else { y - (z - x) }
-    }
-}
-
+#[tactic(auto, unfolding(crate::specs::Functions::binary_at, crate::specs::Numerics::iadd_sat_u, crate::specs::Numerics::sat_u))]
 pub fn iadd_sat_u(n: u64, a: u64, b: u64) -> u64
     ensures { result ≡ binary_at wasm.iadd_sat_u n a b }
 {
-    match n {
-        1..=64 => clamped(n, low(n, a), low(n, b), 0),
-        _ => 0,
-    }
+    Width::new(n).map_or(0, |w| {
+        w.low(a).saturating_add(w.low(b)).min(w.all_ones())
+    })
 }
 
+#[tactic(auto, unfolding(crate::specs::Functions::binary_at, crate::specs::Numerics::isub_sat_u, crate::specs::Numerics::sat_u))]
 pub fn isub_sat_u(n: u64, a: u64, b: u64) -> u64
     ensures { result ≡ binary_at wasm.isub_sat_u n a b }
 {
-    match n {
-        1..=64 => clamped(n, low(n, a), 0, low(n, b)),
-        _ => 0,
-    }
+    Width::new(n).map_or(0, |w| w.low(a).saturating_sub(w.low(b)))
 }
 
-// The signed ones saturate their biased numbers; `biased` takes the bias off again, since it adds 2^(n - 1) modulo 2^n.
+#[tactic(auto, using(crate::proofs::Signed::cut_twice, crate::proofs::Signed::passed), unfolding(crate::specs::Functions::binary_at, crate::specs::Numerics::iadd_sat_s))]
 pub fn iadd_sat_s(n: u64, a: u64, b: u64) -> u64
     ensures { result ≡ binary_at wasm.iadd_sat_s n a b }
 {
-    match n {
-        1..=64 => biased(n, clamped(n, biased(n, a), biased(n, b), half(n))),
-        _ => 0,
-    }
+    Width::new(n).map_or(0, |w| w.saturated(w.signed(a).saturating_add(w.signed(b))))
 }
 
+#[tactic(auto, using(crate::proofs::Signed::cut_twice, crate::proofs::Signed::passed), unfolding(crate::specs::Functions::binary_at, crate::specs::Numerics::isub_sat_s))]
 pub fn isub_sat_s(n: u64, a: u64, b: u64) -> u64
     ensures { result ≡ binary_at wasm.isub_sat_s n a b }
 {
-    match n {
-        1..=64 => biased(n, clamped(n, biased(n, a), half(n), biased(n, b))),
-        _ => 0,
-    }
+    Width::new(n).map_or(0, |w| w.saturated(w.signed(a).saturating_sub(w.signed(b))))
 }

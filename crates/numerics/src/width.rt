@@ -1,63 +1,93 @@
-// What the operations take from their width. An operand is a number below 2^n; any other is read modulo 2^n.
-ghost use Rattle.std.specs.Prelude.{◌≡◌, ◌-◌, ◌%◌, ◌^◌, ◌<◌, unsigned_abs};
-ghost use Rattle.numerics.specs.Numerics.{signed};
-ghost use Rattle.numerics.specs.Functions.{Width, bias, sign_of};
+// A width, and what the operations take from it. An operand is a number below 2^n; any other is read modulo 2^n.
+#![tactic(auto, using(crate::proofs::Signed::readings))]
 
-// 2^n - 1: all n bits set.
-pub fn all_ones(n: u64) -> u64
-    requires { Width n }
-    ensures { result ≡ 2 ^ n - 1 }
-{
-    u64::MAX >> (64 - n)
+ghost use Rattle.std.specs.Prelude.{◌≡◌, ◌-◌, ◌%◌, ◌^◌, ◌≤◌, MatchOption, false, pos, negsuc};
+ghost use Rattle.numerics.specs.Numerics as wasm;
+ghost use Rattle.numerics.specs.Functions.{IsWidth, widths};
+
+/// A number of bits, from 1 to 64.
+#[derive(Clone, Copy)]
+pub struct Width {
+    pub bits: u64,
+    ghost is_width: { IsWidth bits },
 }
 
-// 2^(n - 1): the sign bit alone.
-pub fn half(n: u64) -> u64
-    requires { Width n }
-    ensures { result ≡ 2 ^ (n - 1) }
-{
-    1u64 << (n - 1)
-}
+impl Width {
+    pub fn new(bits: u64) -> Option<Width>
+        ensures { MatchOption result (widths bits bits ≡ false) (λ w. w.bits ≡ bits) }
+    {
+        match bits {
+            1..=64 => Some(Width { bits }),
+            _ => None,
+        }
+    }
 
-// a modulo 2^n.
-pub fn low(n: u64, a: u64) -> u64
-    requires { Width n }
-    ensures { result ≡ a % 2 ^ n }
-{
-    a & all_ones(n)
-}
+    /// Two widths, of which the first is no larger.
+    pub fn pair(low: u64, high: u64) -> Option<(Width, Width)>
+        ensures { MatchOption result (widths low high ≡ false) (λ p. (p.0.bits ≡ low) × (p.1.bits ≡ high) × (low ≤ high)) }
+    {
+        let narrow = Width::new(low)?;
+        let wide = Width::new(high)?;
+        (low <= high).then_some((narrow, wide))
+    }
 
-// The distance of a shift: the operand modulo the width. Most distances are below it and cost no division.
-pub fn distance(n: u64, b: u64) -> u64
-    requires { Width n }
-    ensures { result ≡ b % 2 ^ n % n }
-{
-    let k = low(n, b);
-    if k < n { k } else { k % n }
-}
+    /// 2^n - 1: all n bits set.
+    #[tactic(auto, using(crate::proofs::Modulo::ones_shr))]
+    pub fn all_ones(self) -> u64
+        ensures { result ≡ 2 ^ self.bits - 1 }
+    {
+        u64::MAX >> (64 - self.bits)
+    }
 
-// The signed reading plus 2^(n - 1): unsigned, and in the same order.
-pub fn biased(n: u64, a: u64) -> u64
-    requires { Width n }
-    ensures { result ≡ bias n (a % 2 ^ n) }
-{
-    low(n, std::num::wrapping_add_u64(a, half(n)))
-}
+    /// `a` modulo 2^n.
+    #[tactic(auto, using(std::proofs::lemmas::Nat::and_mask))]
+    pub fn low(self, a: u64) -> u64
+        ensures { result ≡ a % 2 ^ self.bits }
+    {
+        a & self.all_ones()
+    }
 
-// The sign of the signed reading: 1 for a negative number.
-pub fn sign(n: u64, i: u64) -> u64
-    requires fact_1 { Width n }
-    requires fact_2 { i < 2 ^ n }
-    ensures { result ≡ sign_of (signed n i) }
-{
-    i >> (n - 1)
-}
+    /// The distance of a shift: the operand modulo the width. Most distances are below it and cost no division.
+    pub fn distance(self, b: u64) -> u64
+        ensures { result ≡ b % 2 ^ self.bits % self.bits }
+    {
+        let k = self.low(b);
+        if k < self.bits { k } else { k % self.bits }
+    }
 
-// The signed reading without its sign.
-pub fn size(n: u64, i: u64) -> u64
-    requires fact_1 { Width n }
-    requires fact_2 { i < 2 ^ n }
-    ensures { result ≡ unsigned_abs (signed n i) }
-{
-    if i < half(n) { i } else { all_ones(n) - i + 1 }
+    /// The largest signed reading.
+    pub fn max(self) -> i64
+        ensures { result ≡ pos (2 ^ (self.bits - 1) - 1) }
+    {
+        i64::MAX >> (64 - self.bits)
+    }
+
+    /// The smallest signed reading.
+    pub fn min(self) -> i64
+        ensures { result ≡ negsuc (2 ^ (self.bits - 1) - 1) }
+    {
+        i64::MIN >> (64 - self.bits)
+    }
+
+    /// The signed reading: the highest of n bits is the sign.
+    pub fn signed(self, a: u64) -> i64
+        ensures { result ≡ wasm.signed self.bits (a % 2 ^ self.bits) }
+    {
+        let unused = 64 - self.bits;
+        (a << unused).cast_signed() >> unused
+    }
+
+    /// The number of n bits whose signed reading is `z`, or is congruent to it.
+    pub fn unsigned(self, z: i64) -> u64
+        ensures { result ≡ wasm.unsigned self.bits z }
+    {
+        self.low(z.cast_unsigned())
+    }
+
+    /// The number of n bits whose signed reading is nearest to `z`.
+    pub fn saturated(self, z: i64) -> u64
+        ensures { result ≡ wasm.sat_s self.bits z }
+    {
+        self.unsigned(z.clamp(self.min(), self.max()))
+    }
 }

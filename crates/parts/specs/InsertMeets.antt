@@ -3,7 +3,7 @@ use Rattle.std.specs.Prelude.{◌≡◌, length, take, drop}
 use Rattle.std.proofs.Math.Path.{refl}
 use Rattle.std.proofs.Common.{sym, ap, subst, ◌∙◌, arith, length-append, drop_at}
 use mathlib.Core.List.{List, ◌∷◌, ◌++◌, map, append_assoc, []}
-use Rattle.std.proofs.Math.Option.{Option, none, some}
+use Rattle.std.specs.Prelude.{Option, None, Some}
 use Prim.Native.Nat.{ℕ, zero, suc, ◌+◌, ◌-◌, ◌≤◌}
 use Rattle.std.proofs.Math.Seq.{take-append-add}
 use Rattle.spec.specs.Hir.{At}
@@ -12,27 +12,26 @@ use Rattle.spec.specs.Ticket.{Tables}
 use Rattle.spec.specs.Monad.{Out, Outcome, done, refused, nothing, ◌⊕◌, prepend, bind_to, pure, ◌>>=◌, or_refuse}
 use Rattle.spec.specs.Operands.{set_value}
 use Rattle.spec.specs.Lower.{lower_insert}
-use Rattle.values.specs.declared.State.{State}
+use Rattle.values.specs.declared.Lowering.{Lowering}
 use Rattle.values.specs.declared.Value.{Value as Val}
-use Rattle.values.specs.declared.Lowered.{Lowered}
 use Rattle.values.specs.Heads.{Head, root, parts_of, head_of, preorders, count, records, records_parts, skip, skip_length}
-use Rattle.values.specs.Left.{CaseValue, Bufs, counters_in, at_top, MeetsValue, DoneValue}
-use Rattle.values.specs.Laws.{prepend_prepend, left_then, with_stack}
+use Rattle.values.specs.Left.{counters_in, with_stack, DoneValue}
+use Rattle.values.specs.Laws.{prepend_prepend, left_then}
 use Rattle.values.specs.Stack.{found_in, Moved, values_in, heads, between_kept, stands_kept, stands_left}
-use Rattle.parts.specs.Meets.{left_fits, left_heads, moved_left}
+use Rattle.parts.specs.Meets.{left_fits, left_heads, moved_left, CasePart, MeetsPart}
 use Rattle.parts.specs.Insert.{part_count, with_part, aggregate_head, CaseInsert, Inserts, Insertable}
 
 -- ---------------------------------------------------------------- the tree with part i replaced
 
 abbrev SetIs : List Head → List Head → List Head → ℕ → Option Values → Type 0
-SetIs hs found xs n none = found ≡ []
-SetIs hs found xs n (some us) = (h : Head) × (ks : List Head) × (found ≡ h ∷ ks) × (preorders us ≡ with_part hs h ks xs) × (count us ≡ n)
+SetIs hs found xs n None = found ≡ []
+SetIs hs found xs n (Some us) = (h : Head) × (ks : List Head) × (found ≡ h ∷ ks) × (preorders us ≡ with_part hs h ks xs) × (count us ≡ n)
 
 module _ (w : Value) where
   abbrev new_records : List Head
   new_records = root w ∷ parts_of w
 
-  here : (v : Value) (vs : Values) → SetIs (preorders (v ∷ᵛ vs)) (preorders (v ∷ᵛ vs)) new_records (suc (count vs)) (some (w ∷ᵛ vs))
+  here : (v : Value) (vs : Values) → SetIs (preorders (v ∷ᵛ vs)) (preorders (v ∷ᵛ vs)) new_records (suc (count vs)) (Some (w ∷ᵛ vs))
   here v vs =
       let ks = parts_of v ++ preorders vs in
       let n : suc (length ks) - suc (length ks) ≡ 0 = omega arith in (
@@ -45,9 +44,9 @@ module _ (w : Value) where
       )
 
   behind_one : (v : Value) (vs : Values) (found : List Head) → length found ≤ length (preorders vs) → (ov : Option Values) → SetIs (preorders vs) found new_records (count vs) ov
-      → SetIs (preorders (v ∷ᵛ vs)) found new_records (suc (count vs)) (elim ov [ none ↦ none | some us ↦ some (v ∷ᵛ us) ])
-  behind_one v vs found le none s = s
-  behind_one v vs found le (some us) s =
+      → SetIs (preorders (v ∷ᵛ vs)) found new_records (suc (count vs)) (elim ov [ None ↦ None | Some us ↦ Some (v ∷ᵛ us) ])
+  behind_one v vs found le None s = s
+  behind_one v vs found le (Some us) s =
       let h = s.0 in
       let ks = s.1 in
       let hs = preorders vs in
@@ -76,65 +75,64 @@ module _ (w : Value) where
 
 -- ---------------------------------------------------------------- insert
 
-module _ {b : Bufs} {c : State} {o : Outcome Value} {b1 : Bufs} {x : Val} {c1 : State} {p : Outcome Value} {b2 : Bufs} {y : Val} {c2 : State} (d : DoneValue b c o b1 x c1) (e : DoneValue b1 c1 p b2 y c2) (h : c.top ≤ length b.stack) where
-  insert_heads : heads b2.stack c.top c1.top ≡ parts_of d.v
+module _ {l : Lowering} {o : Outcome Value} {l1 : Lowering} {x : Val} {p : Outcome Value} {l2 : Lowering} {y : Val} (d : DoneValue l o l1 x) (e : DoneValue l1 p l2 y) (h : l.top ≤ length l.stack.now) where
+  insert_heads : heads l2.stack.now l.top l1.top ≡ parts_of d.v
   insert_heads =
-      let l = d.left in
-      ap (λ (z : List ℕ). map head_of (values_in z)) (between_kept e.left c.top c1.top (omega arith) (omega arith) (left_fits l h)) ∙ left_heads l h
+      let a = d.left in
+      ap (λ (z : List ℕ). map head_of (values_in z)) (between_kept e.left l.top l1.top (omega arith) (omega arith) (left_fits a h)) ∙ left_heads a h
 
   -- what `insert` asks for
-  pub insert_ready : Insertable b2.stack c.top c1.top c2.top y
+  pub insert_ready : Insertable l2.stack.now l.top l1.top l2.top y
   insert_ready =
-      let l = d.left in
-      let k = e.left in
-      let f = left_fits l h in
+      let a = d.left in
+      let b = e.left in
+      let f = left_fits a h in
       record {
         first = omega arith;
         second = omega arith;
-        fits = left_fits k f;
-        whole = stands_kept k (omega arith) (omega arith) f (stands_left l h);
-        new = stands_left k f;
-        sound = e.sound;
+        fits = left_fits b f;
+        whole = stands_kept b (omega arith) (omega arith) f (stands_left a h);
+        new = stands_left b f;
+        sound = e.shows.sound;
       }
 
-  module _ (i ty : ℕ) (env : At) (stack3 : List ℕ) (n : length stack3 ≡ length b2.stack) where
+  module _ (i ty : ℕ) (env : At) (ws : List ℕ) (n : length ws ≡ length l2.stack.now) where
     abbrev appended : Out
     appended = ◌⊕◌ d.out e.out
 
-    stop : (hs xs : List Head) (k : ℕ) (r : Lowered) → CaseInsert b2.stack (at_top c2 c.top) env.line ty k hs [] xs stack3 r → CaseValue b c (refused 24 env.line) (with_stack b2 stack3) r
-    stop hs xs k (Lowered.Done z c3) m = m
-    stop hs xs k (Lowered.Refused a j) m = m
+    stop : (hs xs : List Head) (k : ℕ) (r : Option (Val × ℕ)) → CaseInsert l2.stack.now l.top ty k hs [] xs ws r → CasePart env.line l (refused 24 env.line) (with_stack l2 ws) r
+    stop hs xs k None m = refl
+    stop hs xs k (Some z) m = absurd m
 
-    finish : (us : Values) (hs : List Head) (g : Head) (ks xs : List Head) (k : ℕ) → preorders us ≡ with_part hs g ks xs → count us ≡ k → (r : Lowered)
-        → CaseInsert b2.stack (at_top c2 c.top) env.line ty k hs (g ∷ ks) xs stack3 r → CaseValue b c (prepend appended (done (value ty (aggregate us)) (counters_in c2) nothing)) (with_stack b2 stack3) r
-    finish us hs g ks xs k q u (Lowered.Done z c3) m = (
-      m.0 ∙ ap (λ (a : List Head). aggregate_head ty k a) (sym q) ∙ ap (λ (a : ℕ). aggregate_head ty a (preorders us)) (sym u),
-      m.1,
-      moved_left (left_then d.left e.left) h (subst (λ (a : List Head). Moved b2.stack (at_top c2 c.top) a stack3 c3) (sym q) m.2) n,
+    finish : (us : Values) (hs : List Head) (g : Head) (ks xs : List Head) (k : ℕ) → preorders us ≡ with_part hs g ks xs → count us ≡ k → (r : Option (Val × ℕ))
+        → CaseInsert l2.stack.now l.top ty k hs (g ∷ ks) xs ws r → CasePart env.line l (prepend appended (done (value ty (aggregate us)) (counters_in l2) nothing)) (with_stack l2 ws) r
+    finish us hs g ks xs k q u None m = absurd m
+    finish us hs g ks xs k q u (Some z) m = (
+      record { head = m.0 ∙ ap (λ (a : List Head). aggregate_head ty k a) (sym q) ∙ ap (λ (a : ℕ). aggregate_head ty a (preorders us)) (sym u); sound = m.1 },
+      moved_left (left_then d.left e.left) h (subst (λ (a : List Head). Moved l2.stack.now l.top a ws z.1) (sym q) m.2) n,
     )
-    finish us hs g ks xs k q u (Lowered.Refused a j) m = absurd m
 
-    choose : (hs found xs : List Head) (k : ℕ) (ov : Option Values) → SetIs hs found xs k ov → (r : Lowered) → CaseInsert b2.stack (at_top c2 c.top) env.line ty k hs found xs stack3 r
-        → CaseValue b c (prepend appended (prepend nothing (bind_to (λ us. pure (value ty (aggregate us))) env (or_refuse 24 ov env (counters_in c2))))) (with_stack b2 stack3) r
+    choose : (hs found xs : List Head) (k : ℕ) (ov : Option Values) → SetIs hs found xs k ov → (r : Option (Val × ℕ)) → CaseInsert l2.stack.now l.top ty k hs found xs ws r
+        → CasePart env.line l (prepend appended (prepend nothing (bind_to (λ us. pure (value ty (aggregate us))) env (or_refuse 24 ov env (counters_in l2))))) (with_stack l2 ws) r
     unfolding or_refuse
-    choose hs found xs k none s r m = stop hs xs k r (subst (λ (z : List Head). CaseInsert b2.stack (at_top c2 c.top) env.line ty k hs z xs stack3 r) s m)
-    choose hs found xs k (some us) s r m = finish us hs s.0 s.1 xs k s.3 s.4 r (subst (λ (z : List Head). CaseInsert b2.stack (at_top c2 c.top) env.line ty k hs z xs stack3 r) s.2 m)
+    choose hs found xs k None s r m = stop hs xs k r (subst (λ (z : List Head). CaseInsert l2.stack.now l.top ty k hs z xs ws r) s m)
+    choose hs found xs k (Some us) s r m = finish us hs s.0 s.1 xs k s.3 s.4 r (subst (λ (z : List Head). CaseInsert l2.stack.now l.top ty k hs z xs ws r) s.2 m)
 
-    by_value : (T : Tables) (v : Value) (r : Lowered) → CaseInsert b2.stack (at_top c2 c.top) env.line ty (part_count (root v).shape) (parts_of v) (found_in (root v).shape (parts_of v) i) (root e.v ∷ parts_of e.v) stack3 r
-        → CaseValue b c (prepend appended (lower_insert T v i e.v ty env (counters_in c2))) (with_stack b2 stack3) r
+    by_value : (T : Tables) (v : Value) (r : Option (Val × ℕ)) → CaseInsert l2.stack.now l.top ty (part_count (root v).shape) (parts_of v) (found_in (root v).shape (parts_of v) i) (root e.v ∷ parts_of e.v) ws r
+        → CasePart env.line l (prepend appended (lower_insert T v i e.v ty env (counters_in l2))) (with_stack l2 ws) r
     unfolding lower_insert or_refuse ◌>>=◌
     by_value T (value t unit) r m = stop [] (root e.v ∷ parts_of e.v) 0 r m
     by_value T (value t (bit_value z)) r m = stop [] (root e.v ∷ parts_of e.v) 0 r m
     by_value T (value t (bytes_value z)) r m = stop [] (root e.v ∷ parts_of e.v) 0 r m
     by_value T (value t (aggregate vs)) r m = choose (preorders vs) (skip i (preorders vs)) (root e.v ∷ parts_of e.v) (count vs) (set_value vs i e.v) (set_found e.v i vs) r m
 
-    pub insert_meets : (T : Tables) {r : Lowered} → Inserts b2.stack (at_top c2 c.top) c1.top c2.top x i y ty env.line stack3 r
-        → MeetsValue b c (prepend d.out (prepend e.out (lower_insert T d.v i e.v ty env (counters_in c2)))) (with_stack b2 stack3) r
+    pub insert_meets : (T : Tables) {r : Option (Val × ℕ)} → Inserts l2.stack.now l.top l1.top l2.top x i y ty ws r
+        → MeetsPart env.line l (prepend d.out (prepend e.out (lower_insert T d.v i e.v ty env (counters_in l2)))) (with_stack l2 ws) r
     insert_meets T {r} m =
-        let hx : heads b2.stack c1.top c2.top ≡ parts_of e.v = left_heads e.left (left_fits d.left h) in
-        let s1 = subst (λ (z : Head). CaseInsert b2.stack (at_top c2 c.top) env.line ty (part_count z.shape) (heads b2.stack c.top c1.top) (found_in z.shape (heads b2.stack c.top c1.top) i) (head_of y ∷ heads b2.stack c1.top c2.top) stack3 r) d.head m.shown in
-        let s2 = subst (λ (z : List Head). CaseInsert b2.stack (at_top c2 c.top) env.line ty (part_count (root d.v).shape) z (found_in (root d.v).shape z i) (head_of y ∷ heads b2.stack c1.top c2.top) stack3 r) insert_heads s1 in
-        let s3 = subst (λ (z : Head). CaseInsert b2.stack (at_top c2 c.top) env.line ty (part_count (root d.v).shape) (parts_of d.v) (found_in (root d.v).shape (parts_of d.v) i) (z ∷ heads b2.stack c1.top c2.top) stack3 r) e.head s2 in
-        let s4 = subst (λ (z : List Head). CaseInsert b2.stack (at_top c2 c.top) env.line ty (part_count (root d.v).shape) (parts_of d.v) (found_in (root d.v).shape (parts_of d.v) i) (root e.v ∷ z) stack3 r) hx s3 in
-        let q : MeetsValue b c (prepend appended (lower_insert T d.v i e.v ty env (counters_in c2))) (with_stack b2 stack3) r = record { shown = by_value T d.v r s4 } in
-        subst (λ (z : Outcome Value). MeetsValue b c z (with_stack b2 stack3) r) (sym (prepend_prepend d.out e.out (lower_insert T d.v i e.v ty env (counters_in c2)))) q
+        let hx : heads l2.stack.now l1.top l2.top ≡ parts_of e.v = left_heads e.left (left_fits d.left h) in
+        let s1 = subst (λ (z : Head). CaseInsert l2.stack.now l.top ty (part_count z.shape) (heads l2.stack.now l.top l1.top) (found_in z.shape (heads l2.stack.now l.top l1.top) i) (head_of y ∷ heads l2.stack.now l1.top l2.top) ws r) d.shows.head m.shown in
+        let s2 = subst (λ (z : List Head). CaseInsert l2.stack.now l.top ty (part_count (root d.v).shape) z (found_in (root d.v).shape z i) (head_of y ∷ heads l2.stack.now l1.top l2.top) ws r) insert_heads s1 in
+        let s3 = subst (λ (z : Head). CaseInsert l2.stack.now l.top ty (part_count (root d.v).shape) (parts_of d.v) (found_in (root d.v).shape (parts_of d.v) i) (z ∷ heads l2.stack.now l1.top l2.top) ws r) e.shows.head s2 in
+        let s4 = subst (λ (z : List Head). CaseInsert l2.stack.now l.top ty (part_count (root d.v).shape) (parts_of d.v) (found_in (root d.v).shape (parts_of d.v) i) (root e.v ∷ z) ws r) hx s3 in
+        let q : CasePart env.line l (prepend appended (lower_insert T d.v i e.v ty env (counters_in l2))) (with_stack l2 ws) r = by_value T d.v r s4 in
+        record { shown = subst (λ (z : Outcome Value). CasePart env.line l z (with_stack l2 ws) r) (sym (prepend_prepend d.out e.out (lower_insert T d.v i e.v ty env (counters_in l2)))) q }

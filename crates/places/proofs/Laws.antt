@@ -1,64 +1,53 @@
--- Steps that append nothing: what they answer, one behind the other.
-use mathlib.Core.Path.{◌≡◌, refl, sym, ap, ◌∙◌}
-use mathlib.Core.Bool.{Bool, true, false}
-use mathlib.Core.Option.{Option, none, some}
-use Prim.Native.Nat.{ℕ, ◌+◌, ◌-◌, ◌≤◌}
-use native.Mathlib.Omega.{arith}
-use lib.Dec.{leb}
-use borrow.Author.Tests.{leb-true, leb-false, le-leb, lt-leb}
-use Rattle.spec.specs.Hir.{At}
-use Rattle.spec.specs.Monad.{Counters, Lower, nothing, prepend, bind_to, ◌>>=◌, ◌>>◌, pure, refuse, or_refuse, require}
-use Rattle.places.specs.Answers.{Answer, gives, refuses, outcome_of, behind, Answers}
+-- Steps that append nothing: what they come to, one behind the other.
+use mathlib.Core.Path.{◌≡◌, refl, fun_ext}
+use Rattle.std.specs.Prelude.{Option, None, Some, Result, Err}
+use Rattle.std.specs.Option.{ok_or}
+use Rattle.std.specs.Result.{IsErrAnd}
+use Rattle.std.proofs.lemmas.Result.{err_from_is_err_and}
+use Prim.Native.Nat.{ℕ, ◌≤◌, ◌<◌}
+use borrow.Author.Tests.{le-leb, lt-leb}
+use Rattle.spec.specs.Limits.{offset_limit}
+use Rattle.spec.specs.Monad.{Outcome, refused, done, Lower, nothing, prepend, ◌>>=◌, ◌>>◌, pure, refuse, require}
+use Rattle.spec.specs.Places.{within}
+use Rattle.answers.specs.declared.Refusal.{Refusal}
+use Rattle.answers.specs.Refusals.{refusal_number}
+use Rattle.places.specs.Answers.{outcome_of}
 
-quiet : {A : Type 0} (b : Answer A) (h : At) (c : Counters) → prepend nothing (outcome_of b h c) ≡ outcome_of b h c
-quiet (gives a) h c = refl
-quiet (refuses n) h c = refl
+quiet : {A : Type 0} (o : Outcome A) → prepend nothing o ≡ o
+quiet (refused n l) = refl
+quiet (done a c o) = refl
 
-module _ {A B : Type 0} (m : Lower A) where
-  bind_at : (f : A → Lower B) (a : Answer A) (b : Answer B) → Answers m a → Answers (behind a f) b → Answers (m >>= f) b
-  unfolding ◌>>=◌
-  bind_at f (gives a) b p q = record { shown = λ h c. ap (bind_to f h) (p.shown h c) ∙ ap (prepend nothing) (q.shown h c) ∙ quiet b h c }
-  bind_at f (refuses n) b p q = record { shown = λ h c. ap (bind_to f h) (p.shown h c) ∙ q.shown h c }
+pub bind-pure : {A B : Type 0} (a : A) (f : A → Lower B) → (pure a >>= f) ≡ f a
+unfolding ◌>>=◌
+bind-pure a f = fun_ext (λ h. fun_ext (λ c. quiet (f a h c)))
 
-  next_at : (k : Lower B) (a : Answer A) (b : Answer B) → Answers m a → Answers (behind a (λ _. k)) b → Answers (m >> k) b
-  unfolding ◌>>◌
-  next_at k (gives a) b p q = record { shown = λ h c. ap (bind_to (λ _. k) h) (p.shown h c) ∙ ap (prepend nothing) (q.shown h c) ∙ quiet b h c }
-  next_at k (refuses n) b p q = record { shown = λ h c. ap (bind_to (λ _. k) h) (p.shown h c) ∙ q.shown h c }
+pub bind-refuse : {A B : Type 0} (n : ℕ) (f : A → Lower B) → (refuse n >>= f) ≡ refuse n
+unfolding ◌>>=◌
+bind-refuse n f = refl
 
--- f stands behind what m answers
-pub bind : {A B : Type 0} {m : Lower A} (f : A → Lower B) (a : Answer A) {b : Answer B} → Answers m a → Answers (behind a f) b → Answers (m >>= f) b
-bind {m} f a {b} p q = bind_at m f a b p q
+pub next-pure : {A B : Type 0} (a : A) (k : Lower B) → (pure a >> k) ≡ k
+unfolding ◌>>◌
+next-pure a k = fun_ext (λ h. fun_ext (λ c. quiet (k h c)))
 
-pub next : {A B : Type 0} {m : Lower A} (k : Lower B) (a : Answer A) {b : Answer B} → Answers m a → Answers (behind a (λ _. k)) b → Answers (m >> k) b
-next {m} k a {b} p q = next_at m k a b p q
+pub next-refuse : {B : Type 0} (n : ℕ) (k : Lower B) → (refuse {A = Unit {0}} n >> k) ≡ refuse n
+unfolding ◌>>◌
+next-refuse n k = refl
 
-module _ {A : Type 0} where
-  pub pure_gives : (a : A) → Answers (pure a) (gives a)
-  pure_gives a = record { shown = λ h c. refl }
+-- what `?` gives back
+pub returned : {A B : Type 0} (f : A → B) (r : Result A Refusal) (e : Refusal) → IsErrAnd r (λ x. x ≡ e) → outcome_of f r ≡ refuse (refusal_number e)
+returned f r e h = let p = err_from_is_err_and r h in rw (p.1, p.2)
 
-  pub refuse_refuses : (n : ℕ) → Answers {A = A} (refuse n) (refuses n)
-  refuse_refuses n = record { shown = λ h c. refl }
+-- and behind an `ok_or`
+pub returned_none : {A B C : Type 0} (f : A → B) (r : Result A Refusal) (o : Option C) (d e : Refusal) → IsErrAnd r (λ x. x ≡ d) → Err d ≡ ok_or o e → outcome_of f r ≡ refuse (refusal_number e)
+returned_none f r None d e h g = let same : d ≡ e = cc in rw (returned f r d h, same)
+returned_none f r (Some a) d e h g = cc
 
-  pub or_some : (n : ℕ) (o : Option A) (a : A) → o ≡ some a → Answers (or_refuse n o) (gives a)
-  unfolding or_refuse
-  or_some n o a e = rw e (pure_gives a)
+pub within_near : (o : ℕ) → o ≤ offset_limit → within o ≡ pure tt
+unfolding within require
+within_near o h = rw (le-leb o offset_limit h)
 
-  pub or_none : (n : ℕ) (o : Option A) → o ≡ none → Answers (or_refuse n o) (refuses n)
-  unfolding or_refuse
-  or_none n o e = rw e (refuse_refuses n)
+pub within_far : (o : ℕ) → offset_limit < o → within o ≡ refuse 27
+unfolding within require
+within_far o h = rw (lt-leb o offset_limit h)
 
-pub holds : (n : ℕ) (t : Bool) → t ≡ true → Answers (require n t) (gives tt)
-unfolding require
-holds n t e = rw e (pure_gives tt)
-
-pub fails : (n : ℕ) (t : Bool) → t ≡ false → Answers (require n t) (refuses n)
-unfolding require
-fails n t e = rw e (refuse_refuses n)
-
--- a sum's bound is told by a difference
-leb_moved_by : (o n m : ℕ) (t : Bool) → o ≤ m → leb n (m - o) ≡ t → t ≡ leb (o + n) m
-leb_moved_by o n m true h e = let l = leb-true n (m - o) e in sym (le-leb (o + n) m (omega arith))
-leb_moved_by o n m false h e = let l = leb-false n (m - o) e in sym (lt-leb (o + n) m (omega arith))
-
-pub leb_moved : (o n m : ℕ) → o ≤ m → leb n (m - o) ≡ leb (o + n) m
-leb_moved o n m h = leb_moved_by o n m (leb n (m - o)) h refl
+pub ruleset steps = (bind-pure, bind-refuse, next-pure, next-refuse, returned, returned_none, within_near, within_far)

@@ -1,21 +1,11 @@
--- What a step answers that appends nothing and leaves the counters: a value, or a refusal at the line of the node whose own step it is.
-use Rattle.std.specs.Prelude.{◌≡◌, ℕ}
-use Rattle.spec.specs.Hir.{At}
-use Rattle.spec.specs.Monad.{Counters, Lower, pure, refuse}
+-- The step that a result of the code's stands for: it appends nothing and leaves the counters, and refuses at the line of the node whose own
+-- step it is.
+use Rattle.std.specs.Prelude.{Result, Ok, Err}
+use Rattle.spec.specs.Monad.{Lower, pure, refuse}
+use Rattle.answers.specs.declared.Refusal.{Refusal}
+use Rattle.answers.specs.Refusals.{refusal_number}
 
-pub data Answer (A : Type 0) : Type 0 where
-  gives : A → Answer A
-  refuses : ℕ → Answer A
-
-abbrev pub outcome_of : {A : Type 0} → Answer A → Lower A
-outcome_of (gives a) = pure a
-outcome_of (refuses n) = refuse n
-
--- the step f behind an answer
-abbrev pub behind : {A B : Type 0} → Answer A → (A → Lower B) → Lower B
-behind (gives a) f = f a
-behind (refuses n) f = refuse n
-
--- the step m has the outcome of a, at every node and with any counters
-pub record Answers {A : Type 0} (m : Lower A) (a : Answer A) : Type 0 where
-  pub shown : (h : At) (c : Counters) → m h c ≡ outcome_of a h c
+-- f takes a value of the code's to the definitions'
+abbrev pub outcome_of : {A B : Type 0} → (A → B) → Result A Refusal → Lower B
+outcome_of f (Ok a) = pure (f a)
+outcome_of f (Err e) = refuse (refusal_number e)

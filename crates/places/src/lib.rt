@@ -1,677 +1,291 @@
-// Places: where a place line leads, in the Rust's steps. Nothing is appended; the answer is a location or a refusal's number.
+// Places: where a place line leads, in the Rust's steps. Nothing is appended; the answer is a location or a refusal.
 #![tactic(auto)]
 
-ghost use Rattle.std.specs.Prelude.{◌≡◌, List, ℕ, ◌+◌, ◌*◌, ◌≤◌, get_or, leb};
+ghost use Rattle.std.specs.Prelude.{◌≡◌, List, ℕ, ◌≤◌, ◌+◌, ◌*◌, IfSome, IfOk};
+ghost use Rattle.std.specs.Option.{ForSome, option_map};
 ghost use Rattle.spec.specs.Limits.{offset_limit, type_size_limit};
-ghost use Rattle.spec.specs.Hir.{variable, static};
-ghost use Rattle.spec.specs.Ticket.{Tables, expr_at, sum};
-ghost use Rattle.spec.specs.Readable.{Readable};
+ghost use Rattle.spec.specs.Ticket.{Tables as Ticket, type_size_by, expr_at, sum};
 ghost use Rattle.spec.specs.Allocation.{type_size};
-ghost use Rattle.spec.specs.Places.{constant_usize, fields_of, array_of, field_offset, element_offset, base_of, part_of, opaque_rest, resolve_place_base, with_type, location_in, resolve_place};
-ghost use Rattle.tables.specs.Tables.{tables_of, run, type_word, type_args, placed_line, placed_option};
-ghost use Rattle.places.specs.Answers.{Answers, behind};
-ghost use Rattle.places.specs.Abstract.{constant_option, fields_option, array_option, part_from, parted_answer, base_from, based_answer, location_from, location_of, field_in, element_in, offset_in, part_step, field_step, element_step, offset_step, part_located, field_located, element_located, offset_located, placed_step, placed_located, base_at, location_at, Held, Fine, AllFine, AllNear, AllRight, Bases, Locates};
+ghost use Rattle.spec.specs.Places.{constant_usize, fields_of, array_of, field_offset, element_offset, within, with_type, location_in};
+ghost use Rattle.tables.specs.Tables.{run, type_word, type_args, placed_line};
+ghost use Rattle.tables.specs.Ticket.{ticket_of};
+ghost use Rattle.places.specs.Answers.{outcome_of};
+ghost use Rattle.places.specs.Abstract.{run_of, array_from, part_from, base_from, location_from, typed_base, part_step, rest_step, part_located, placed_step, placed_located, base_at, location_at, IsHeld};
 
+use answers::Refusal;
 use lir::StorageId;
-use tables::{Counts, NodeKind, PlaceKind, Placed, PlacedAt, TypeKind};
+use tables::{NodeKind, PlaceKind, Placed, Tables, TypeKind};
 
-// A constant index or offset, if a node is one.
-#[derive(Drop)]
-pub enum Constant {
-    Usize(u64),
-    Absent,
+mod found;
+
+pub use found::{Base, Location, Part};
+
+const OFFSET_LIMIT: u64 = 65535;
+
+/// An index or an offset of a place is looked at, and never lowered.
+pub fn constant_usize(tables: &Tables<'_>, depth: u64, e: u64) -> Option<u64>
+    ensures { constant_usize (expr_at depth (ticket_of tables.now) e) ≡ result }
+{
+    if depth == 0 {
+        return None;
+    }
+    match tables.node_at(e) {
+        NodeKind::Int(n) => Some(n),
+        _ => None,
+    }
 }
 
 // A struct's or tuple's fields: where they begin in the lists, and how many they are.
-#[derive(Drop)]
-pub enum Fields {
-    Run(u64, u64),
-    Absent,
+fn fields_of(kind: TypeKind) -> Option<(u64, u64)>
+    ensures fields { (lists : List ℕ) → fields_of (type_word kind) (type_args lists kind) ≡ option_map (run_of lists) result }
+    ensures size { (lists : List ℕ) (size : ℕ → ℕ) → IfSome result (λ f. type_size_by size (type_word kind) (type_args lists kind) ≡ sum size (run lists f.0 f.1)) }
+{
+    match kind {
+        TypeKind::Struct(start, count) | TypeKind::Tuple(start, count) => Some((start, count)),
+        _ => None,
+    }
 }
 
 // An array's element type and length.
-#[derive(Drop)]
-pub enum Array {
-    Of(u64, u64),
-    Absent,
-}
-
-// A part of a type: where it begins, and its own type.
-#[derive(Drop)]
-pub struct Part {
-    pub offset: u64,
-    pub ty: u64,
-}
-
-#[derive(Drop)]
-pub enum Parted {
-    At(Part),
-    Refused(u64),
-}
-
-// A base's type is a line's content: an offset makes an opaque type that no line need have.
-#[derive(Drop)]
-pub struct Base {
-    pub storage: StorageId,
-    pub offset: u64,
-    pub kind: TypeKind,
-    pub size: u64,
-    pub bit: bool,
-}
-
-#[derive(Drop)]
-pub enum Based {
-    At(Base),
-    Refused(u64),
-}
-
-#[derive(Drop)]
-pub struct Location {
-    pub storage: StorageId,
-    pub offset: u64,
-    pub ty: u64,
-    pub bit: bool,
-}
-
-#[derive(Drop)]
-pub enum Resolved {
-    At(Location),
-    Refused(u64),
-}
-
-// An index or an offset of a place is looked at, and never lowered.
-pub fn constant_usize(
-    rows: &[u64],
-    nodes: &[u64],
-    lists: &[u64],
-    counts: Counts,
-    depth: u64,
-    e: u64,
-) -> Constant
-    requires { Readable (tables_of rows.now nodes.now lists.now counts) }
-    ensures { constant_usize (expr_at depth (tables_of rows.now nodes.now lists.now counts) e) ≡ constant_option result }
-{
-    if depth == 0 {
-        return Constant::Absent;
-    }
-    match tables::node_at(nodes, lists, counts, e) {
-        NodeKind::Int(n) => Constant::Usize(n),
-        _ => Constant::Absent,
-    }
-}
-
-fn fields_of(kind: TypeKind) -> Fields
-    ensures { (lists : List ℕ) → fields_of (type_word kind) (type_args lists kind) ≡ fields_option lists result }
+fn array_of(kind: TypeKind) -> Option<(u64, u64)>
+    ensures array { (lists : List ℕ) → array_of (type_word kind) (type_args lists kind) ≡ option_map array_from result }
+    ensures size { (lists : List ℕ) (size : ℕ → ℕ) → IfSome result (λ a. type_size_by size (type_word kind) (type_args lists kind) ≡ size a.0 * a.1) }
 {
     match kind {
-        TypeKind::Struct(start, count) => Fields::Run(start, count),
-        TypeKind::Tuple(start, count) => Fields::Run(start, count),
-        _ => Fields::Absent,
+        TypeKind::Array(element, length) => Some((element, length)),
+        _ => None,
     }
-}
-
-fn array_of(kind: TypeKind) -> Array
-    ensures { (lists : List ℕ) → array_of (type_word kind) (type_args lists kind) ≡ array_option result }
-{
-    match kind {
-        TypeKind::Array(element, length) => Array::Of(element, length),
-        _ => Array::Absent,
-    }
-}
-
-// The size of field i.
-fn field_size(rows: &[u64], nodes: &[u64], lists: &[u64], counts: Counts, start: u64, i: u64) -> u64
-    requires { Readable (tables_of rows.now nodes.now lists.now counts) }
-    ensures { result ≡ type_size (tables_of rows.now nodes.now lists.now counts) (get_or lists.now (start + i) 0) }
-{
-    tables::type_size(rows, counts, tables::list_at(lists, start, i))
 }
 
 // The sizes of the first n fields, added up.
-fn sizes_before(
-    rows: &[u64],
-    nodes: &[u64],
-    lists: &[u64],
-    counts: Counts,
-    start: u64,
-    n: u64,
-) -> u64
-    requires { (Readable (tables_of rows.now nodes.now lists.now counts)) × (sum (type_size (tables_of rows.now nodes.now lists.now counts)) (run lists.now start n) ≤ type_size_limit) }
-    ensures { result ≡ sum (type_size (tables_of rows.now nodes.now lists.now counts)) (run lists.now start n) }
+#[tactic(auto, using(crate::proofs::Facts::sums))]
+fn sizes_before(tables: &Tables<'_>, start: u64, n: u64) -> u64
+    requires { sum (type_size (ticket_of tables.now)) (run tables.now.lists.now start n) ≤ type_size_limit }
+    ensures { result ≡ sum (type_size (ticket_of tables.now)) (run tables.now.lists.now start n) }
 {
-    let mut total: u64 = 0;
-    let mut i: u64 = 0;
-    while i < n {
-        total += field_size(rows, nodes, lists, counts, start, i);
-        i += 1;
+    let mut total = 0;
+    for i in 0..n {
+        total += tables.type_size(tables.list_at(start, i));
     }
     total
 }
 
-// Field i of a run of fields.
-fn field_in(
-    rows: &[u64],
-    nodes: &[u64],
-    lists: &[u64],
-    counts: Counts,
-    start: u64,
-    count: u64,
-    i: u64,
-) -> Parted
-    requires { (Readable (tables_of rows.now nodes.now lists.now counts)) × (sum (type_size (tables_of rows.now nodes.now lists.now counts)) (run lists.now start count) ≤ type_size_limit) }
-    ensures { Answers (field_in (tables_of rows.now nodes.now lists.now counts) (run lists.now start count) i) (parted_answer result) }
+#[tactic(auto, using(crate::proofs::Facts::parts), unfolding(spec::specs::Places::field_offset, spec::specs::Monad::or_refuse))]
+pub fn field_offset(tables: &Tables<'_>, kind: TypeKind, i: u64) -> Result<Part, Refusal>
+    requires { IsHeld tables.now kind }
+    ensures { field_offset (ticket_of tables.now) (type_word kind) (type_args tables.now.lists.now kind) i ≡ outcome_of part_from result }
 {
+    let (start, count) = fields_of(kind).ok_or(Refusal::InvalidPlace)?;
     if count <= i {
-        return Parted::Refused(21);
+        return Err(Refusal::InvalidPlace);
     }
-    let offset = sizes_before(rows, nodes, lists, counts, start, i);
-    let ty = tables::list_at(lists, start, i);
-    Parted::At(Part { offset, ty })
+    let offset = sizes_before(tables, start, i);
+    let ty = tables.list_at(start, i);
+    Ok(Part { offset, ty })
 }
 
-pub fn field_offset(
-    rows: &[u64],
-    nodes: &[u64],
-    lists: &[u64],
-    counts: Counts,
-    kind: TypeKind,
-    i: u64,
-) -> Parted
-    requires { (Readable (tables_of rows.now nodes.now lists.now counts)) × (Held (tables_of rows.now nodes.now lists.now counts) (type_word kind) (type_args lists.now kind)) }
-    ensures { Answers (field_offset (tables_of rows.now nodes.now lists.now counts) (type_word kind) (type_args lists.now kind) i) (parted_answer result) }
-{
-    match fields_of(kind) {
-        Fields::Run(start, count) => field_in(rows, nodes, lists, counts, start, count, i),
-        Fields::Absent => Parted::Refused(21),
-    }
-}
-
-// An array's element at a constant index inside it.
-fn element_in(
-    rows: &[u64],
-    nodes: &[u64],
-    lists: &[u64],
-    counts: Counts,
-    element: u64,
-    length: u64,
-    index: Constant,
-) -> Parted
-    requires { (Readable (tables_of rows.now nodes.now lists.now counts)) × (type_size (tables_of rows.now nodes.now lists.now counts) element * length ≤ type_size_limit) }
-    ensures { Answers (element_in (tables_of rows.now nodes.now lists.now counts) element length (constant_option index)) (parted_answer result) }
-{
-    match index {
-        Constant::Absent => Parted::Refused(21),
-        Constant::Usize(i) => {
-            if length <= i {
-                return Parted::Refused(21);
-            }
-            let size = tables::type_size(rows, counts, element);
-            Parted::At(Part {
-                offset: i * size,
-                ty: element,
-            })
-        }
-    }
-}
-
+/// An array's element at a constant index inside it.
+#[tactic(auto, using(crate::proofs::Facts::parts), unfolding(spec::specs::Places::element_offset, spec::specs::Monad::or_refuse, spec::specs::Monad::require))]
 pub fn element_offset(
-    rows: &[u64],
-    nodes: &[u64],
-    lists: &[u64],
-    counts: Counts,
+    tables: &Tables<'_>,
     kind: TypeKind,
     depth: u64,
     e: u64,
-) -> Parted
-    requires { (Readable (tables_of rows.now nodes.now lists.now counts)) × (Held (tables_of rows.now nodes.now lists.now counts) (type_word kind) (type_args lists.now kind)) }
-    ensures { Answers (element_offset (tables_of rows.now nodes.now lists.now counts) (type_word kind) (type_args lists.now kind) (expr_at depth (tables_of rows.now nodes.now lists.now counts) e)) (parted_answer result) }
+) -> Result<Part, Refusal>
+    requires { IsHeld tables.now kind }
+    ensures { element_offset (ticket_of tables.now) (type_word kind) (type_args tables.now.lists.now kind) (expr_at depth (ticket_of tables.now) e) ≡ outcome_of part_from result }
 {
-    match array_of(kind) {
-        Array::Of(element, length) => {
-            let index = constant_usize(rows, nodes, lists, counts, depth, e);
-            element_in(rows, nodes, lists, counts, element, length, index)
-        }
-        Array::Absent => Parted::Refused(21),
+    let (element, length) = array_of(kind).ok_or(Refusal::InvalidPlace)?;
+    let index = constant_usize(tables, depth, e).ok_or(Refusal::InvalidPlace)?;
+    if length <= index {
+        return Err(Refusal::InvalidPlace);
+    }
+    let size = tables.type_size(element);
+    Ok(Part {
+        offset: index * size,
+        ty: element,
+    })
+}
+
+// Where n bytes behind an offset are, told before the sum could wrap.
+#[tactic(auto, using(crate::proofs::Laws::steps))]
+fn within(offset: u64, n: u64) -> Result<u64, Refusal>
+    ensures step { within (offset + n) ≡ outcome_of (λ _. tt) result }
+    ensures sum { IfOk result (λ o. o ≡ offset + n) }
+    ensures near { IfOk result (λ o. o ≤ offset_limit) }
+{
+    match offset.checked_add(n) {
+        Some(o) if o <= OFFSET_LIMIT => Ok(o),
+        _ => Err(Refusal::FarOffset),
     }
 }
 
-// 27 is told without the sum, which could wrap.
-fn within(offset: u64, n: u64) -> bool
+// A base whose type is a line's.
+fn typed_base(tables: &Tables<'_>, storage: StorageId, offset: u64, ty: u64, bit: bool) -> Base
     requires { offset ≤ offset_limit }
-    ensures { result ≡ leb (offset + n) offset_limit }
+    ensures base { base_from tables.now.lists.now result ≡ typed_base (ticket_of tables.now) storage.0 offset ty bit }
+    ensures held { IsHeld tables.now result.kind }
 {
-    n <= 65535 - offset
-}
-
-fn base_of(rows: &[u64], nodes: &[u64], lists: &[u64], counts: Counts, placed: Placed) -> Base
-    requires { Readable (tables_of rows.now nodes.now lists.now counts) }
-    ensures { base_from lists.now result ≡ base_of (tables_of rows.now nodes.now lists.now counts) (placed_line placed) }
-{
-    let kind = tables::type_at(rows, lists, counts, placed.ty);
-    let size = tables::type_size(rows, counts, placed.ty);
-    Base {
-        storage: StorageId(placed.storage),
-        offset: placed.offset,
-        kind,
-        size,
-        bit: placed.bit == 1,
-    }
-}
-
-fn part_of(
-    rows: &[u64],
-    nodes: &[u64],
-    lists: &[u64],
-    counts: Counts,
-    base: Base,
-    part: Part,
-) -> Base
-    requires { (Readable (tables_of rows.now nodes.now lists.now counts)) × (base.offset + part.offset ≤ offset_limit) }
-    ensures { base_from lists.now result ≡ part_of (tables_of rows.now nodes.now lists.now counts) (base_from lists.now base) (part_from part) }
-{
-    let kind = tables::type_at(rows, lists, counts, part.ty);
-    let size = tables::type_size(rows, counts, part.ty);
-    let storage = base.storage;
     Base {
         storage,
-        offset: base.offset + part.offset,
-        kind,
+        offset,
+        kind: tables.type_at(ty),
+        size: tables.type_size(ty),
+        bit,
+    }
+}
+
+// A variable's or a static's base.
+#[tactic(auto, using(crate::proofs::Laws::steps), unfolding(spec::specs::Places::base_of, spec::specs::Monad::or_refuse))]
+fn placed_base(tables: &Tables<'_>, found: Option<Placed>) -> Result<Base, Refusal>
+    requires { ForSome found (λ p. p.offset ≤ offset_limit) }
+    ensures step { placed_step (ticket_of tables.now) (option_map placed_line found) ≡ outcome_of (base_from tables.now.lists.now) result }
+    ensures held { IfOk result (λ b. IsHeld tables.now b.kind) }
+{
+    let p = found.ok_or(Refusal::UnknownPlace)?;
+    Ok(typed_base(tables, StorageId(p.storage), p.offset, p.ty, p.bit == 1))
+}
+
+#[tactic(auto, using(crate::proofs::Laws::steps), unfolding(spec::specs::Places::part_of))]
+fn part_base(tables: &Tables<'_>, base: Base, part: Part) -> Result<Base, Refusal>
+    ensures step { part_step (ticket_of tables.now) (base_from tables.now.lists.now base) (part_from part) ≡ outcome_of (base_from tables.now.lists.now) result }
+    ensures held { IfOk result (λ b. IsHeld tables.now b.kind) }
+{
+    let offset = within(base.offset, part.offset)?;
+    Ok(typed_base(tables, base.storage, offset, part.ty, false))
+}
+
+// What is left of a base n bytes on.
+#[tactic(auto, using(crate::proofs::Laws::steps), unfolding(spec::specs::Places::opaque_rest))]
+fn rest_base(base: Base, n: u64) -> Result<Base, Refusal>
+    ensures step { (T : Ticket) (lists : List ℕ) → rest_step T (base_from lists base) n ≡ outcome_of (base_from lists) result }
+    ensures opaque { IfOk result (λ b. b.kind ≡ TypeKind.Opaque b.size) }
+{
+    let offset = within(base.offset, n)?;
+    let size = base.size.saturating_sub(n);
+    Ok(Base {
+        storage: base.storage,
+        offset,
+        kind: TypeKind::Opaque(size),
         size,
         bit: false,
-    }
+    })
 }
 
-fn opaque_rest(base: Base, n: u64) -> Base
-    requires { base.offset + n ≤ offset_limit }
-    ensures { (T : Tables) (lists : List ℕ) → base_from lists result ≡ opaque_rest T (base_from lists base) n }
-{
-    let storage = base.storage;
-    let rest = if n < base.size { base.size - n } else { 0 };
-    Base {
-        storage,
-        offset: base.offset + n,
-        kind: TypeKind::Opaque(rest),
-        size: rest,
-        bit: false,
-    }
-}
-
-fn placed_base(rows: &[u64], nodes: &[u64], lists: &[u64], counts: Counts, found: PlacedAt) -> Based
-    requires { (Readable (tables_of rows.now nodes.now lists.now counts)) × (AllRight (tables_of rows.now nodes.now lists.now counts) found) }
-    ensures { Bases (tables_of rows.now nodes.now lists.now counts) lists.now (placed_step (tables_of rows.now nodes.now lists.now counts) (placed_option found)) result }
-{
-    match found {
-        PlacedAt::Missing => Based::Refused(20),
-        PlacedAt::Found(placed) => Based::At(base_of(rows, nodes, lists, counts, placed)),
-    }
-}
-
-fn variable_base(rows: &[u64], nodes: &[u64], lists: &[u64], counts: Counts, k: u64) -> Based
-    requires { Readable (tables_of rows.now nodes.now lists.now counts) }
-    ensures { Bases (tables_of rows.now nodes.now lists.now counts) lists.now (resolve_place_base (tables_of rows.now nodes.now lists.now counts) (variable k)) result }
-{
-    let found = tables::variable_at(rows, lists, counts, k);
-    placed_base(rows, nodes, lists, counts, found)
-}
-
-fn static_base(rows: &[u64], nodes: &[u64], lists: &[u64], counts: Counts, k: u64) -> Based
-    requires { Readable (tables_of rows.now nodes.now lists.now counts) }
-    ensures { Bases (tables_of rows.now nodes.now lists.now counts) lists.now (resolve_place_base (tables_of rows.now nodes.now lists.now counts) (static k)) result }
-{
-    let found = tables::static_at(rows, lists, counts, k);
-    placed_base(rows, nodes, lists, counts, found)
-}
-
-// The base's part, unless the part is refused.
-fn part_base(
-    rows: &[u64],
-    nodes: &[u64],
-    lists: &[u64],
-    counts: Counts,
-    base: Base,
-    parted: Parted,
-) -> Based
-    requires { (Readable (tables_of rows.now nodes.now lists.now counts)) × (Fine (tables_of rows.now nodes.now lists.now counts) (base_from lists.now base)) }
-    ensures { Bases (tables_of rows.now nodes.now lists.now counts) lists.now (behind (parted_answer parted) (part_step (tables_of rows.now nodes.now lists.now counts) (base_from lists.now base))) result }
-{
-    match parted {
-        Parted::Refused(n) => Based::Refused(n),
-        Parted::At(part) => {
-            if within(base.offset, part.offset) {
-                Based::At(part_of(rows, nodes, lists, counts, base, part))
-            } else {
-                Based::Refused(27)
-            }
-        }
-    }
-}
-
-fn field_base(
-    rows: &[u64],
-    nodes: &[u64],
-    lists: &[u64],
-    counts: Counts,
-    based: Based,
-    i: u64,
-) -> Based
-    requires { (Readable (tables_of rows.now nodes.now lists.now counts)) × (AllFine (tables_of rows.now nodes.now lists.now counts) lists.now based) }
-    ensures { Bases (tables_of rows.now nodes.now lists.now counts) lists.now (behind (based_answer lists.now based) (field_step (tables_of rows.now nodes.now lists.now counts) i)) result }
-{
-    match based {
-        Based::Refused(n) => Based::Refused(n),
-        Based::At(base) => {
-            let kind = base.kind;
-            let parted = field_offset(rows, nodes, lists, counts, kind, i);
-            part_base(rows, nodes, lists, counts, base, parted)
-        }
-    }
-}
-
-fn element_base(
-    rows: &[u64],
-    nodes: &[u64],
-    lists: &[u64],
-    counts: Counts,
-    based: Based,
-    depth: u64,
-    e: u64,
-) -> Based
-    requires { (Readable (tables_of rows.now nodes.now lists.now counts)) × (AllFine (tables_of rows.now nodes.now lists.now counts) lists.now based) }
-    ensures { Bases (tables_of rows.now nodes.now lists.now counts) lists.now (behind (based_answer lists.now based) (element_step (tables_of rows.now nodes.now lists.now counts) depth e)) result }
-{
-    match based {
-        Based::Refused(n) => Based::Refused(n),
-        Based::At(base) => {
-            let kind = base.kind;
-            let parted = element_offset(rows, nodes, lists, counts, kind, depth, e);
-            part_base(rows, nodes, lists, counts, base, parted)
-        }
-    }
-}
-
-fn offset_in(base: Base, n: Constant) -> Based
-    requires { base.offset ≤ offset_limit }
-    ensures { (T : Tables) (lists : List ℕ) → Fine T (base_from lists base) → Bases T lists (offset_in T (base_from lists base) (constant_option n)) result }
-{
-    match n {
-        Constant::Absent => Based::Refused(21),
-        Constant::Usize(n) => {
-            if within(base.offset, n) {
-                Based::At(opaque_rest(base, n))
-            } else {
-                Based::Refused(27)
-            }
-        }
-    }
-}
-
-fn offset_base(
-    rows: &[u64],
-    nodes: &[u64],
-    lists: &[u64],
-    counts: Counts,
-    based: Based,
-    depth: u64,
-    e: u64,
-) -> Based
-    requires { (Readable (tables_of rows.now nodes.now lists.now counts)) × (AllFine (tables_of rows.now nodes.now lists.now counts) lists.now based) }
-    ensures { Bases (tables_of rows.now nodes.now lists.now counts) lists.now (behind (based_answer lists.now based) (offset_step (tables_of rows.now nodes.now lists.now counts) depth e)) result }
-{
-    match based {
-        Based::Refused(n) => Based::Refused(n),
-        Based::At(base) => {
-            let n = constant_usize(rows, nodes, lists, counts, depth, e);
-            offset_in(base, n)
-        }
-    }
-}
-
-// Place line p as a base, `depth` lines deep at most.
-pub fn resolve_place_base(
-    rows: &[u64],
-    nodes: &[u64],
-    lists: &[u64],
-    counts: Counts,
-    depth: u64,
-    p: u64,
-) -> Based
-    requires { Readable (tables_of rows.now nodes.now lists.now counts) }
-    ensures { Bases (tables_of rows.now nodes.now lists.now counts) lists.now (base_at (tables_of rows.now nodes.now lists.now counts) depth p) result }
+/// Place line p as a base, `depth` lines deep at most.
+#[tactic(auto, using(crate::proofs::Facts::led), unfolding(spec::specs::Places::resolve_place_base, spec::specs::Monad::or_refuse))]
+pub fn resolve_place_base(tables: &Tables<'_>, depth: u64, p: u64) -> Result<Base, Refusal>
+    ensures step { base_at (ticket_of tables.now) depth p ≡ outcome_of (base_from tables.now.lists.now) result }
+    ensures held { IfOk result (λ b. IsHeld tables.now b.kind) }
 {
     if depth == 0 {
-        return variable_base(rows, nodes, lists, counts, 0);
+        return placed_base(tables, tables.variable_at(0));
     }
-    match tables::place_at(rows, lists, counts, p) {
-        PlaceKind::Variable(k) => variable_base(rows, nodes, lists, counts, k),
-        PlaceKind::Static(k) => static_base(rows, nodes, lists, counts, k),
+    match tables.place_at(p) {
+        PlaceKind::Variable(k) => placed_base(tables, tables.variable_at(k)),
+        PlaceKind::Static(k) => placed_base(tables, tables.static_at(k)),
         PlaceKind::Field(q, i) => {
-            let based = resolve_place_base(rows, nodes, lists, counts, depth - 1, q);
-            field_base(rows, nodes, lists, counts, based, i)
+            let base = resolve_place_base(tables, depth - 1, q)?;
+            let part = field_offset(tables, base.kind, i)?;
+            part_base(tables, base, part)
         }
         PlaceKind::Element(q, e) => {
-            let based = resolve_place_base(rows, nodes, lists, counts, depth - 1, q);
-            element_base(rows, nodes, lists, counts, based, depth - 1, e)
+            let base = resolve_place_base(tables, depth - 1, q)?;
+            let part = element_offset(tables, base.kind, depth - 1, e)?;
+            part_base(tables, base, part)
         }
         PlaceKind::Offset(q, e) => {
-            let based = resolve_place_base(rows, nodes, lists, counts, depth - 1, q);
-            offset_base(rows, nodes, lists, counts, based, depth - 1, e)
+            let base = resolve_place_base(tables, depth - 1, q)?;
+            let n = constant_usize(tables, depth - 1, e).ok_or(Refusal::InvalidPlace)?;
+            rest_base(base, n)
         }
     }
 }
 
-pub fn with_type(found: Placed, ty: u64) -> Resolved
+#[tactic(auto, using(crate::proofs::Laws::steps), unfolding(spec::specs::Places::with_type, spec::specs::Monad::require))]
+pub fn with_type(found: Placed, ty: u64) -> Result<Location, Refusal>
     requires { found.offset ≤ offset_limit }
-    ensures { (T : Tables) → Locates (with_type T ty (placed_line found)) result }
+    ensures { (T : Ticket) → with_type T ty (placed_line found) ≡ outcome_of location_from result }
 {
-    if found.ty == ty {
-        Resolved::At(Location {
-            storage: StorageId(found.storage),
-            offset: found.offset,
-            ty,
-            bit: found.bit == 1,
-        })
-    } else {
-        Resolved::Refused(22)
+    if found.ty != ty {
+        return Err(Refusal::TypeMismatch);
     }
+    Ok(Location {
+        storage: StorageId(found.storage),
+        offset: found.offset,
+        ty,
+        bit: found.bit == 1,
+    })
 }
 
-fn located(base: Base, o: u64, ty: u64) -> Location
-    requires { base.offset + o ≤ offset_limit }
-    ensures { (lists : List ℕ) → location_from result ≡ location_of (base_from lists base) o ty }
+// A variable's or a static's location.
+#[tactic(auto, using(crate::proofs::Laws::steps), unfolding(spec::specs::Monad::or_refuse))]
+fn placed_location(found: Option<Placed>, ty: u64) -> Result<Location, Refusal>
+    requires { ForSome found (λ p. p.offset ≤ offset_limit) }
+    ensures { (T : Ticket) → placed_located T ty (option_map placed_line found) ≡ outcome_of location_from result }
 {
-    let storage = base.storage;
-    Location {
-        storage,
-        offset: base.offset + o,
+    let p = found.ok_or(Refusal::UnknownPlace)?;
+    with_type(p, ty)
+}
+
+#[tactic(auto, using(crate::proofs::Laws::steps), unfolding(spec::specs::Places::location_in))]
+fn location_in(base: Base, o: u64, ty: u64) -> Result<Location, Refusal>
+    ensures { (T : Ticket) (lists : List ℕ) → location_in T (base_from lists base) o ty ≡ outcome_of location_from result }
+{
+    let offset = within(base.offset, o)?;
+    Ok(Location {
+        storage: base.storage,
+        offset,
         ty,
         bit: false,
-    }
-}
-
-fn location_in(base: Base, o: u64, ty: u64) -> Resolved
-    requires { base.offset ≤ offset_limit }
-    ensures { (T : Tables) (lists : List ℕ) → Locates (location_in T (base_from lists base) o ty) result }
-{
-    if within(base.offset, o) {
-        Resolved::At(located(base, o, ty))
-    } else {
-        Resolved::Refused(27)
-    }
-}
-
-fn placed_location(found: PlacedAt, ty: u64) -> Resolved
-    requires { AllNear found }
-    ensures { (T : Tables) → Locates (placed_located T ty (placed_option found)) result }
-{
-    match found {
-        PlacedAt::Missing => Resolved::Refused(20),
-        PlacedAt::Found(placed) => with_type(placed, ty),
-    }
-}
-
-fn variable_location(
-    rows: &[u64],
-    nodes: &[u64],
-    lists: &[u64],
-    counts: Counts,
-    k: u64,
-    ty: u64,
-) -> Resolved
-    requires { Readable (tables_of rows.now nodes.now lists.now counts) }
-    ensures { Locates (resolve_place (tables_of rows.now nodes.now lists.now counts) (variable k) ty) result }
-{
-    let found = tables::variable_at(rows, lists, counts, k);
-    placed_location(found, ty)
-}
-
-fn static_location(
-    rows: &[u64],
-    nodes: &[u64],
-    lists: &[u64],
-    counts: Counts,
-    k: u64,
-    ty: u64,
-) -> Resolved
-    requires { Readable (tables_of rows.now nodes.now lists.now counts) }
-    ensures { Locates (resolve_place (tables_of rows.now nodes.now lists.now counts) (static k) ty) result }
-{
-    let found = tables::static_at(rows, lists, counts, k);
-    placed_location(found, ty)
+    })
 }
 
 // 22 comes before 27.
-fn part_location(base: Base, parted: Parted, ty: u64) -> Resolved
-    requires { base.offset ≤ offset_limit }
-    ensures { (T : Tables) (lists : List ℕ) → Locates (behind (parted_answer parted) (part_located T ty (base_from lists base))) result }
+#[tactic(auto, using(crate::proofs::Laws::steps), unfolding(spec::specs::Monad::require))]
+fn part_location(base: Base, part: Part, ty: u64) -> Result<Location, Refusal>
+    ensures { (T : Ticket) (lists : List ℕ) → part_located T ty (base_from lists base) (part_from part) ≡ outcome_of location_from result }
 {
-    match parted {
-        Parted::Refused(n) => Resolved::Refused(n),
-        Parted::At(part) => {
-            let same = part.ty == ty;
-            let fits = within(base.offset, part.offset);
-            if !same {
-                return Resolved::Refused(22);
-            }
-            if !fits {
-                return Resolved::Refused(27);
-            }
-            Resolved::At(located(base, part.offset, ty))
-        }
+    if part.ty != ty {
+        return Err(Refusal::TypeMismatch);
     }
+    location_in(base, part.offset, ty)
 }
 
-fn field_location(
-    rows: &[u64],
-    nodes: &[u64],
-    lists: &[u64],
-    counts: Counts,
-    based: Based,
-    i: u64,
-    ty: u64,
-) -> Resolved
-    requires { (Readable (tables_of rows.now nodes.now lists.now counts)) × (AllFine (tables_of rows.now nodes.now lists.now counts) lists.now based) }
-    ensures { Locates (behind (based_answer lists.now based) (field_located (tables_of rows.now nodes.now lists.now counts) i ty)) result }
-{
-    match based {
-        Based::Refused(n) => Resolved::Refused(n),
-        Based::At(base) => {
-            let kind = base.kind;
-            let parted = field_offset(rows, nodes, lists, counts, kind, i);
-            part_location(base, parted, ty)
-        }
-    }
-}
-
-fn element_location(
-    rows: &[u64],
-    nodes: &[u64],
-    lists: &[u64],
-    counts: Counts,
-    based: Based,
-    depth: u64,
-    e: u64,
-    ty: u64,
-) -> Resolved
-    requires { (Readable (tables_of rows.now nodes.now lists.now counts)) × (AllFine (tables_of rows.now nodes.now lists.now counts) lists.now based) }
-    ensures { Locates (behind (based_answer lists.now based) (element_located (tables_of rows.now nodes.now lists.now counts) depth e ty)) result }
-{
-    match based {
-        Based::Refused(n) => Resolved::Refused(n),
-        Based::At(base) => {
-            let kind = base.kind;
-            let parted = element_offset(rows, nodes, lists, counts, kind, depth, e);
-            part_location(base, parted, ty)
-        }
-    }
-}
-
-fn offset_location(
-    rows: &[u64],
-    nodes: &[u64],
-    lists: &[u64],
-    counts: Counts,
-    based: Based,
-    depth: u64,
-    e: u64,
-    ty: u64,
-) -> Resolved
-    requires { (Readable (tables_of rows.now nodes.now lists.now counts)) × (AllFine (tables_of rows.now nodes.now lists.now counts) lists.now based) }
-    ensures { Locates (behind (based_answer lists.now based) (offset_located (tables_of rows.now nodes.now lists.now counts) depth e ty)) result }
-{
-    match based {
-        Based::Refused(n) => Resolved::Refused(n),
-        Based::At(base) => match constant_usize(rows, nodes, lists, counts, depth, e) {
-            Constant::Absent => Resolved::Refused(21),
-            Constant::Usize(n) => location_in(base, n, ty),
-        },
-    }
-}
-
-// Where a value of type ty stands that place line p leads to.
-pub fn resolve_place(
-    rows: &[u64],
-    nodes: &[u64],
-    lists: &[u64],
-    counts: Counts,
-    depth: u64,
-    p: u64,
-    ty: u64,
-) -> Resolved
-    requires { Readable (tables_of rows.now nodes.now lists.now counts) }
-    ensures { Locates (location_at (tables_of rows.now nodes.now lists.now counts) depth p ty) result }
+// The kinds stand here again, as in the definitions: one walk for both would need an enum of its ends, and a third definition.
+/// Where a value of type ty stands that place line p leads to.
+#[tactic(auto, using(crate::proofs::Facts::led), unfolding(spec::specs::Places::resolve_place, spec::specs::Monad::or_refuse))]
+pub fn resolve_place(tables: &Tables<'_>, depth: u64, p: u64, ty: u64) -> Result<Location, Refusal>
+    ensures { location_at (ticket_of tables.now) depth p ty ≡ outcome_of location_from result }
 {
     if depth == 0 {
-        return variable_location(rows, nodes, lists, counts, 0, ty);
+        return placed_location(tables.variable_at(0), ty);
     }
-    match tables::place_at(rows, lists, counts, p) {
-        PlaceKind::Variable(k) => variable_location(rows, nodes, lists, counts, k, ty),
-        PlaceKind::Static(k) => static_location(rows, nodes, lists, counts, k, ty),
+    match tables.place_at(p) {
+        PlaceKind::Variable(k) => placed_location(tables.variable_at(k), ty),
+        PlaceKind::Static(k) => placed_location(tables.static_at(k), ty),
         PlaceKind::Field(q, i) => {
-            let based = resolve_place_base(rows, nodes, lists, counts, depth - 1, q);
-            field_location(rows, nodes, lists, counts, based, i, ty)
+            let base = resolve_place_base(tables, depth - 1, q)?;
+            let part = field_offset(tables, base.kind, i)?;
+            part_location(base, part, ty)
         }
         PlaceKind::Element(q, e) => {
-            let based = resolve_place_base(rows, nodes, lists, counts, depth - 1, q);
-            element_location(rows, nodes, lists, counts, based, depth - 1, e, ty)
+            let base = resolve_place_base(tables, depth - 1, q)?;
+            let part = element_offset(tables, base.kind, depth - 1, e)?;
+            part_location(base, part, ty)
         }
         PlaceKind::Offset(q, e) => {
-            let based = resolve_place_base(rows, nodes, lists, counts, depth - 1, q);
-            offset_location(rows, nodes, lists, counts, based, depth - 1, e, ty)
+            let base = resolve_place_base(tables, depth - 1, q)?;
+            let n = constant_usize(tables, depth - 1, e).ok_or(Refusal::InvalidPlace)?;
+            location_in(base, n, ty)
         }
     }
 }
 
-// The Rust answers a base and its offset again; a base holds its offset.
-pub fn resolve_addressed_place(
-    rows: &[u64],
-    nodes: &[u64],
-    lists: &[u64],
-    counts: Counts,
-    depth: u64,
-    p: u64,
-) -> Based
-    requires { Readable (tables_of rows.now nodes.now lists.now counts) }
-    ensures { Bases (tables_of rows.now nodes.now lists.now counts) lists.now (base_at (tables_of rows.now nodes.now lists.now counts) depth p) result }
+/// The Rust answers a base and its offset again; a base holds its offset.
+pub fn resolve_addressed_place(tables: &Tables<'_>, depth: u64, p: u64) -> Result<Base, Refusal>
+    ensures step { base_at (ticket_of tables.now) depth p ≡ outcome_of (base_from tables.now.lists.now) result }
+    ensures held { IfOk result (λ b. IsHeld tables.now b.kind) }
 {
-    resolve_place_base(rows, nodes, lists, counts, depth, p)
+    resolve_place_base(tables, depth, p)
 }

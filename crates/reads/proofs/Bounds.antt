@@ -1,9 +1,6 @@
 -- How much reading a type appends, and how many records its value has: by its size and its weight.
-use mathlib.Core.Path.{◌≡◌, subst}
-use mathlib.Core.List.{List, ◌∷◌, ◌++◌, []}
-use Prim.Native.Nat.{ℕ, zero, suc, ◌+◌, ◌*◌, ◌≤◌, zero-le}
-use native.Mathlib.Omega.{arith}
-use lib.ListN.{length, length-append}
+use Rattle.std.specs.Prelude.{◌≡◌, List, ◌∷◌, ◌++◌, [], ℕ, zero, suc, ◌+◌, ◌*◌, ◌≤◌, length}
+use Rattle.std.proofs.Common.{subst, arith, zero-le, length-append}
 use Rattle.spec.specs.Hir as hir
 use Rattle.spec.specs.Ticket.{TypeWord, t_unit, t_bool, t_bits, t_float, t_pointer, t_array, t_struct, t_tuple, t_opaque, Tables, type_at, arg, sum, type_size_by, weight_by}
 use Rattle.spec.specs.Readable.{TypesRight}

@@ -1,27 +1,18 @@
 -- A type is read as the definitions read its line: an array's elements are so many fields of one type.
-use mathlib.Core.Path.{◌≡◌, refl, ap, ◌∙◌}
-use mathlib.Core.List.{List, ◌∷◌, []}
-use Prim.Native.Nat.{ℕ, zero, suc, ◌+◌, ◌-◌, ◌*◌, ◌≤◌}
-use native.Mathlib.Omega.{arith}
-use lib.ListN.{length, get_or}
-use Rattle.spec.specs.Hir as hir
-use Rattle.spec.specs.Ticket.{TypeLine, Tables, sum, type_size_by, weight_by}
-use Rattle.spec.specs.Readable.{TypesRight}
-use Rattle.spec.specs.Lir.{Value}
-use Rattle.spec.specs.Monad.{Lower, bind_to, ◌>>=◌}
-use Rattle.spec.specs.Monad as monad
+use Rattle.std.specs.Prelude.{◌≡◌, refl, List, ◌∷◌, [], ℕ, zero, suc, ◌+◌, ◌-◌, ◌*◌, ◌≤◌, ◌<◌, get_or}
+use Rattle.std.proofs.Common.{sym, ap, ◌∙◌, ◌⊎◌, inl, inr, arith}
+use Rattle.spec.specs.Ticket.{TypeLine, Tables, type_at, sum, type_size_by, weight_by}
+use Rattle.spec.specs.Lir.{Value, value, aggregate, Values}
+use Rattle.spec.specs.Monad.{Lower, pure, ◌>>=◌}
 use Rattle.spec.specs.Allocation.{type_size}
-use Rattle.spec.specs.ReadBytes.{read_elements, read_fields, read_word, read_bytes_as_type}
-use Rattle.tables.specs.declared.Counts.{Counts}
+use Rattle.spec.specs.ReadBytes.{read_elements, read_fields, read_plain, read_word, read_bytes_as_type}
 use Rattle.tables.specs.declared.TypeKind.{TypeKind}
-use Rattle.tables.specs.Tables.{tab, run, type_kind_at, type_word, type_args, type_line, tables_of, size_at}
-use Rattle.tables.proofs.Laws.{Looks, type_at_lem, size_here, word_here, args_here, looks_here}
-use Rattle.values.specs.Laws.{cons_to}
-use Rattle.reads.specs.declared.Leaf.{Leaf}
+use Rattle.tables.specs.declared.lookups.Tables as code
+use Rattle.tables.specs.Tables.{tab, run, type_kind_at, type_word, type_args, type_line, size_at}
+use Rattle.tables.specs.Ticket.{ticket_of}
+use Rattle.tables.proofs.Laws.{Looks, type_at_lem, word_here, args_here, looks_here}
 use Rattle.reads.specs.declared.Parts.{Parts}
-use Rattle.reads.specs.declared.Reading.{Reading}
-use Rattle.reads.specs.Reading.{reading_of, part_type, part_types, reading_read, size_of, weight_of}
-use Rattle.reads.proofs.Bounds.{weight_least}
+use Rattle.reads.specs.Reading.{part_type, part_types, size_of, weight_of}
 
 -- ---------------------------------------------------------------- the types of parts
 
@@ -34,7 +25,7 @@ unfolding tab
 same_anywhere t i j zero = refl
 same_anywhere t i j (suc n) = ap (λ (l : List ℕ). t ∷ l) (same_anywhere t (suc i) (suc j) n)
 
-pub elements_types : (lists : List ℕ) (t n : ℕ) → part_types lists (Parts.Elements t) 0 n ≡ same t n
+elements_types : (lists : List ℕ) (t n : ℕ) → part_types lists (Parts.Elements t) 0 n ≡ same t n
 unfolding part_types
 elements_types lists t n = refl
 
@@ -43,156 +34,129 @@ unfolding tab
 run_tab lists a j zero = refl
 run_tab lists a j (suc n) = let e : suc (a + j) ≡ a + suc j = omega arith in rw (run_tab lists a (suc j) n, e)
 
-pub fields_types : (lists : List ℕ) (a n : ℕ) → part_types lists (Parts.Fields a) 0 n ≡ run lists a n
+fields_types : (lists : List ℕ) (a n : ℕ) → part_types lists (Parts.Fields a) 0 n ≡ run lists a n
 unfolding part_types run
 fields_types lists a n = let e : a + 0 ≡ a = omega arith in rw e at (run_tab lists a 0 n)
 
-pub parts_more : (lists : List ℕ) (p : Parts) (i n : ℕ) → (n ≡ 0 → ⊥) → part_types lists p i n ≡ part_type lists p i ∷ part_types lists p (i + 1) (n - 1)
+parts_more : (lists : List ℕ) (p : Parts) (i m : ℕ) → part_types lists p i (suc m) ≡ part_type lists p i ∷ part_types lists p (i + 1) m
 unfolding part_types tab
-parts_more lists p i zero h = absurd (h refl)
-parts_more lists p i (suc n) h = let e : suc n - 1 ≡ n = omega arith in let g : i + 1 ≡ suc i = omega arith in rw (e, g)
+parts_more lists p i m = let g : i + 1 ≡ suc i = omega arith in rw g
 
-pub parts_none : (lists : List ℕ) (p : Parts) (i n : ℕ) → n ≡ 0 → part_types lists p i n ≡ []
+-- of n parts those from part i on: the first of them and the rest
+pub parts_next : (lists : List ℕ) (p : Parts) (i n : ℕ) → i < n → part_types lists p i (n - i) ≡ part_type lists p i ∷ part_types lists p (i + 1) (n - (i + 1))
+parts_next lists p i n h = let e : n - i ≡ suc (n - (i + 1)) = omega arith in rw e (parts_more lists p i (n - (i + 1)))
+
+pub parts_none : (lists : List ℕ) (p : Parts) (i n : ℕ) → n ≤ i → part_types lists p i (n - i) ≡ []
 unfolding part_types tab
-parts_none lists p i n e = rw e
+parts_none lists p i n h = let e : n - i ≡ 0 = omega arith in rw e
 
 sum_same : (f : ℕ → ℕ) (t n : ℕ) → sum f (same t n) ≡ n * f t
 unfolding tab
 sum_same f t zero = omega arith
 sum_same f t (suc n) = rw (same_anywhere t 1 0 n, sum_same f t n) (omega arith)
 
--- what is 1 at least, added up
-sum_least : (f : ℕ → ℕ) → ((t : ℕ) → 1 ≤ f t) → (ts : List ℕ) → length ts ≤ sum f ts
-sum_least f h [] = omega arith
-sum_least f h (t ∷ ts) = omega (arith, h t, sum_least f h ts)
+-- ---------------------------------------------------------------- reading, sizes and weights, by the kind
 
-length_tab : (f : ℕ → ℕ) (i n : ℕ) → length (tab f i n) ≡ n
-unfolding tab
-length_tab f i zero = refl
-length_tab f i (suc n) = ap suc (length_tab f (suc i) n)
+-- an array's elements are so many fields of one type
+elements_fields : (T : Tables) (rd : ℕ → ℕ → Lower Value) (t o n : ℕ) → read_elements (rd t) (type_size T t) o n ≡ read_fields T rd o (same t n)
+unfolding read_elements read_fields tab
+elements_fields T rd t o zero = refl
+elements_fields T rd t o (suc n) = rw (elements_fields T rd t (o + type_size T t) n, same_anywhere t 1 0 n)
 
--- ---------------------------------------------------------------- a type, by the kind of its line
+looks_read : (T : Tables) (rd : ℕ → ℕ → Lower Value) (s ty o : ℕ) → Looks (read_word T rd s ty o)
+unfolding read_word
+looks_read T rd s ty o =
+    record {
+      unit = λ xs. refl;
+      bool = λ xs. refl;
+      bits = λ xs. refl;
+      float = λ xs. refl;
+      pointer = λ xs. refl;
+      array = λ xs. refl;
+      opaque = λ xs. refl;
+    }
 
-module _ (T : Tables) (rd : ℕ → ℕ → Lower Value) where
-  -- an array's elements are so many fields of one type
-  elements_fields : (t o n : ℕ) → read_elements (rd t) (type_size T t) o n ≡ read_fields T rd o (same t n)
-  unfolding read_elements read_fields tab
-  elements_fields t o zero = refl
-  elements_fields t o (suc n) = rw (elements_fields t (o + type_size T t) n, same_anywhere t 1 0 n)
+-- values gathered under a head
+abbrev pub gathered : ℕ → Lower Values → Lower Value
+gathered ty m = do
+  vs ← m
+  pure (value ty (aggregate vs))
 
-  pub word_reading : (lists : List ℕ) (s ty o : ℕ) (k : TypeKind)
-      → read_word T rd s ty o (type_word k) (type_args lists k) ≡ reading_read T lists rd s ty o (reading_of k)
-  unfolding read_word
-  word_reading lists s ty o TypeKind.Unit = refl
-  word_reading lists s ty o TypeKind.Bool = refl
-  word_reading lists s ty o (TypeKind.Bits a) = refl
-  word_reading lists s ty o (TypeKind.Float a) = refl
-  word_reading lists s ty o TypeKind.Pointer = refl
-  word_reading lists s ty o (TypeKind.Array t n) = rw (elements_types lists t n, elements_fields t o n)
-  word_reading lists s ty o (TypeKind.Struct a n) = rw (fields_types lists a n)
-  word_reading lists s ty o (TypeKind.Tuple a n) = rw (fields_types lists a n)
-  word_reading lists s ty o (TypeKind.Opaque a) = refl
+-- the n parts p of a type, by which it is read, sized and weighed
+pub record Parted (T : Tables) (lists : List ℕ) (ty : ℕ) (p : Parts) (n : ℕ) : Type 0 where
+  pub size : size_of T ty ≡ sum (size_of T) (part_types lists p 0 n)
+  pub weight : weight_of T ty ≡ 1 + sum (weight_of T) (part_types lists p 0 n)
+  pub read : (rd : ℕ → ℕ → Lower Value) (s o : ℕ) → read_word T rd s ty o (type_at T ty).word (type_at T ty).args ≡ gathered ty (read_fields T rd o (part_types lists p 0 n))
 
-  looks_read : (s ty o : ℕ) → Looks (read_word T rd s ty o)
-  unfolding read_word
-  looks_read s ty o =
-      record {
-        unit = λ xs. refl;
-        bool = λ xs. refl;
-        bits = λ xs. refl;
-        float = λ xs. refl;
-        pointer = λ xs. refl;
-        array = λ xs. refl;
-        opaque = λ xs. refl;
-      }
-
--- ---------------------------------------------------------------- sizes and weights, by the kind
-
--- n, where the parts do not say it
-abbrev told : List ℕ → (List ℕ → ℕ) → Reading → ℕ → ℕ
-told lists f (Reading.One Leaf.Unit) n = n
-told lists f (Reading.One Leaf.Bool) n = 1
-told lists f (Reading.One Leaf.Plain) n = n
-told lists f (Reading.One Leaf.Refused) n = n
-told lists f (Reading.Many p m) n = f (part_types lists p 0 m)
-
-sized_as : (f : ℕ → ℕ) (lists : List ℕ) (k : TypeKind) → type_size_by f (type_word k) (type_args lists k) ≡ told lists (sum f) (reading_of k) (type_size_by f (type_word k) (type_args lists k))
-sized_as f lists TypeKind.Unit = refl
-sized_as f lists TypeKind.Bool = refl
-sized_as f lists (TypeKind.Bits a) = refl
-sized_as f lists (TypeKind.Float a) = refl
-sized_as f lists TypeKind.Pointer = refl
-sized_as f lists (TypeKind.Array t n) = rw (elements_types lists t n, sum_same f t n) (omega arith)
-sized_as f lists (TypeKind.Struct a n) = rw (fields_types lists a n)
-sized_as f lists (TypeKind.Tuple a n) = rw (fields_types lists a n)
-sized_as f lists (TypeKind.Opaque a) = refl
-
-weighed_as : (f : ℕ → ℕ) (lists : List ℕ) (k : TypeKind) → weight_by f (type_word k) (type_args lists k) ≡ told lists (λ ts. 1 + sum f ts) (reading_of k) (weight_by f (type_word k) (type_args lists k))
-weighed_as f lists TypeKind.Unit = refl
-weighed_as f lists TypeKind.Bool = refl
-weighed_as f lists (TypeKind.Bits a) = refl
-weighed_as f lists (TypeKind.Float a) = refl
-weighed_as f lists TypeKind.Pointer = refl
-weighed_as f lists (TypeKind.Array t n) = rw (elements_types lists t n, sum_same f t n)
-weighed_as f lists (TypeKind.Struct a n) = rw (fields_types lists a n)
-weighed_as f lists (TypeKind.Tuple a n) = rw (fields_types lists a n)
-weighed_as f lists (TypeKind.Opaque a) = refl
-
--- ---------------------------------------------------------------- of the tables
-
-module _ (rows nodes lists : List ℕ) (c : Counts) where
-  pub size_at_of : (ty : ℕ) → size_of (tables_of rows nodes lists c) ty ≡ size_at rows c ty
+module _ (t : code.Tables) (ty : ℕ) where
+  pub size_at_of : size_of (ticket_of t) ty ≡ size_at t.rows.now t.counts ty
   unfolding type_line
-  size_at_of ty = ap (λ (z : TypeLine). z.size) (type_at_lem rows nodes lists c ty)
+  size_at_of = ap (λ (z : TypeLine). z.size) (type_at_lem t.rows.now t.lists.now t.counts ty)
 
   -- reading at a depth that is not 0
-  pub read_here : (d s ty o : ℕ) (h : hir.At) (e : monad.Counters) (m : Reading) → (d ≡ 0 → ⊥) → reading_of (type_kind_at rows lists c ty) ≡ m
-      → read_bytes_as_type (tables_of rows nodes lists c) d s ty o h e
-      ≡ reading_read (tables_of rows nodes lists c) lists (λ t p. read_bytes_as_type (tables_of rows nodes lists c) (d - 1) s t p) s ty o m h e
+  read_deeper : (d s o : ℕ) → (d ≡ 0 → ⊥)
+      → read_bytes_as_type (ticket_of t) d s ty o ≡ read_word (ticket_of t) (λ t' p. read_bytes_as_type (ticket_of t) (d - 1) s t' p) s ty o (type_at (ticket_of t) ty).word (type_at (ticket_of t) ty).args
   unfolding read_bytes_as_type
-  read_here zero s ty o h e m g k = absurd (g refl)
-  read_here (suc d) s ty o h e m g k =
-      let f : suc d - 1 ≡ d = omega arith in
-      let T = tables_of rows nodes lists c in
-      let rd : ℕ → ℕ → Lower Value = λ t p. read_bytes_as_type T d s t p in
-      rw (f)
-      (ap (λ (x : Lower Value). x h e) (looks_here rows nodes lists c (looks_read T rd s ty o) ty ∙ word_reading T rd lists s ty o (type_kind_at rows lists c ty))
-      ∙ ap (λ (x : Reading). reading_read T lists rd s ty o x h e) k)
+  read_deeper zero s o g = absurd (g refl)
+  read_deeper (suc d) s o g = let f : suc d - 1 ≡ d = omega arith in rw f
 
-  module _ (R : TypesRight (tables_of rows nodes lists c)) where
-    sized_here : (ty : ℕ) → size_of (tables_of rows nodes lists c) ty ≡ type_size_by (size_of (tables_of rows nodes lists c)) (type_word (type_kind_at rows lists c ty)) (type_args lists (type_kind_at rows lists c ty))
-    sized_here ty = R.sized ty ∙ rw (word_here rows nodes lists c ty, args_here rows nodes lists c R ty)
+  module _ (k : TypeKind) (e : type_kind_at t.rows.now t.lists.now t.counts ty ≡ k) where
+    word_read : (rd : ℕ → ℕ → Lower Value) (s o : ℕ)
+        → read_word (ticket_of t) rd s ty o (type_at (ticket_of t) ty).word (type_at (ticket_of t) ty).args ≡ read_word (ticket_of t) rd s ty o (type_word k) (type_args t.lists.now k)
+    word_read rd s o = rw e at (looks_here t.rows.now t.lists.now t.counts (looks_read (ticket_of t) rd s ty o) ty)
 
-    weighed_here : (ty : ℕ) → weight_of (tables_of rows nodes lists c) ty ≡ weight_by (weight_of (tables_of rows nodes lists c)) (type_word (type_kind_at rows lists c ty)) (type_args lists (type_kind_at rows lists c ty))
-    weighed_here ty = R.weighed ty ∙ rw (word_here rows nodes lists c ty, args_here rows nodes lists c R ty)
+    pub read_here : (d s o : ℕ) → (d ≡ 0 → ⊥)
+        → read_bytes_as_type (ticket_of t) d s ty o ≡ read_word (ticket_of t) (λ t' p. read_bytes_as_type (ticket_of t) (d - 1) s t' p) s ty o (type_word k) (type_args t.lists.now k)
+    read_here d s o g = read_deeper d s o g ∙ word_read (λ t' p. read_bytes_as_type (ticket_of t) (d - 1) s t' p) s o
 
-    pub bool_size : (ty : ℕ) → reading_of (type_kind_at rows lists c ty) ≡ Reading.One Leaf.Bool → size_of (tables_of rows nodes lists c) ty ≡ 1
-    bool_size ty e = let f = size_of (tables_of rows nodes lists c) in let k = type_kind_at rows lists c ty in
-        sized_here ty ∙ sized_as f lists k ∙ ap (λ (z : Reading). told lists (sum f) z (type_size_by f (type_word k) (type_args lists k))) e
+    sized_here : size_of (ticket_of t) ty ≡ type_size_by (size_of (ticket_of t)) (type_word k) (type_args t.lists.now k)
+    sized_here =
+        let R = t.readable.types in
+        R.sized ty ∙ rw (word_here t.rows.now t.lists.now t.counts ty, args_here t.rows.now t.lists.now t.counts R ty, e)
 
-    pub parts_size : (ty : ℕ) (p : Parts) (n : ℕ) → reading_of (type_kind_at rows lists c ty) ≡ Reading.Many p n
-        → size_of (tables_of rows nodes lists c) ty ≡ sum (size_of (tables_of rows nodes lists c)) (part_types lists p 0 n)
-    parts_size ty p n e = let f = size_of (tables_of rows nodes lists c) in let k = type_kind_at rows lists c ty in
-        sized_here ty ∙ sized_as f lists k ∙ ap (λ (z : Reading). told lists (sum f) z (type_size_by f (type_word k) (type_args lists k))) e
+    weighed_here : weight_of (ticket_of t) ty ≡ weight_by (weight_of (ticket_of t)) (type_word k) (type_args t.lists.now k)
+    weighed_here =
+        let R = t.readable.types in
+        R.weighed ty ∙ rw (word_here t.rows.now t.lists.now t.counts ty, args_here t.rows.now t.lists.now t.counts R ty, e)
 
-    pub parts_weight : (ty : ℕ) (p : Parts) (n : ℕ) → reading_of (type_kind_at rows lists c ty) ≡ Reading.Many p n
-        → weight_of (tables_of rows nodes lists c) ty ≡ 1 + sum (weight_of (tables_of rows nodes lists c)) (part_types lists p 0 n)
-    parts_weight ty p n e = let f = weight_of (tables_of rows nodes lists c) in let k = type_kind_at rows lists c ty in
-        weighed_here ty ∙ weighed_as f lists k ∙ ap (λ (z : Reading). told lists (λ ts. 1 + sum f ts) z (weight_by f (type_word k) (type_args lists k))) e
+  -- the kinds that are read as the bytes that stand there
+  pub plain_here : {k : TypeKind} → (((x : ℕ) × k ≡ TypeKind.Bits x) ⊎ ((k ≡ TypeKind.Pointer) ⊎ ((x : ℕ) × k ≡ TypeKind.Opaque x))) → k ≡ type_kind_at t.rows.now t.lists.now t.counts ty
+      → (d s o : ℕ) → (d ≡ 0 → ⊥) → read_bytes_as_type (ticket_of t) d s ty o ≡ read_plain (ticket_of t) s ty o
+  unfolding read_word
+  plain_here (inl b) e = read_here (TypeKind.Bits b.0) (sym e ∙ b.1)
+  plain_here (inr (inl p)) e = read_here TypeKind.Pointer (sym e ∙ p)
+  plain_here (inr (inr q)) e = read_here (TypeKind.Opaque q.0) (sym e ∙ q.1)
 
-    -- no type has more parts than it weighs
-    pub parts_few : (ty : ℕ) (p : Parts) (n : ℕ) → reading_of (type_kind_at rows lists c ty) ≡ Reading.Many p n → n ≤ 4096
-    unfolding part_types
-    parts_few ty p n e =
-        let l = sum_least (weight_of (tables_of rows nodes lists c)) (weight_least (tables_of rows nodes lists c) R) (part_types lists p 0 n) in
-        omega (arith, l, length_tab (part_type lists p) 0 n, parts_weight ty p n e, R.weight_most ty)
+  pub bool_size : type_kind_at t.rows.now t.lists.now t.counts ty ≡ TypeKind.Bool → size_of (ticket_of t) ty ≡ 1
+  bool_size e = sized_here TypeKind.Bool e
 
-  -- parts, the first of them and the rest
-  pub fields_here : (rd : ℕ → ℕ → Lower Value) (o : ℕ) (p : Parts) (i n : ℕ) (h : hir.At) (e : monad.Counters) → (n ≡ 0 → ⊥)
-      → read_fields (tables_of rows nodes lists c) rd o (part_types lists p i n) h e
-      ≡ bind_to (λ v h e. bind_to (cons_to v) h (read_fields (tables_of rows nodes lists c) rd (o + size_at rows c (part_type lists p i)) (part_types lists p (i + 1) (n - 1)) h e)) h (rd (part_type lists p i) o h e)
-  unfolding read_fields ◌>>=◌
-  fields_here rd o p i n h e g = rw (parts_more lists p i n g, size_here rows nodes lists c (part_type lists p i))
+  pub parted_array : {k : TypeKind} {a n : ℕ} → k ≡ TypeKind.Array a n → k ≡ type_kind_at t.rows.now t.lists.now t.counts ty → Parted (ticket_of t) t.lists.now ty (Parts.Elements a) n
+  unfolding read_word
+  parted_array {a = a} {n} p e =
+      let T = ticket_of t in
+      let k = TypeKind.Array a n in
+      let g = sym e ∙ p in
+      record {
+        size = sized_here k g ∙ rw (elements_types t.lists.now a n, sum_same (size_of T) a n) (omega arith);
+        weight = weighed_here k g ∙ rw (elements_types t.lists.now a n, sum_same (weight_of T) a n);
+        read = λ rd s o. word_read k g rd s o ∙ rw (elements_types t.lists.now a n, elements_fields T rd a o n);
+      }
 
-  pub sum_here : (f : ℕ → ℕ) (p : Parts) (i n : ℕ) → (n ≡ 0 → ⊥) → sum f (part_types lists p i n) ≡ f (part_type lists p i) + sum f (part_types lists p (i + 1) (n - 1))
-  sum_here f p i n g = rw (parts_more lists p i n g)
+  -- whose numbers are its parts
+  fielded : (k : TypeKind) (a n : ℕ) → type_kind_at t.rows.now t.lists.now t.counts ty ≡ k → type_size_by (size_of (ticket_of t)) (type_word k) (type_args t.lists.now k) ≡ sum (size_of (ticket_of t)) (run t.lists.now a n)
+      → weight_by (weight_of (ticket_of t)) (type_word k) (type_args t.lists.now k) ≡ 1 + sum (weight_of (ticket_of t)) (run t.lists.now a n)
+      → ((rd : ℕ → ℕ → Lower Value) (s o : ℕ) → read_word (ticket_of t) rd s ty o (type_word k) (type_args t.lists.now k) ≡ gathered ty (read_fields (ticket_of t) rd o (run t.lists.now a n)))
+      → Parted (ticket_of t) t.lists.now ty (Parts.Fields a) n
+  fielded k a n g e f r =
+      let q = fields_types t.lists.now a n in
+      record { size = sized_here k g ∙ rw (q, e); weight = weighed_here k g ∙ rw (q, f); read = λ rd s o. word_read k g rd s o ∙ rw q (r rd s o) }
+
+  pub parted_fields : {k : TypeKind} {a n : ℕ} → ((k ≡ TypeKind.Struct a n) ⊎ (k ≡ TypeKind.Tuple a n)) → k ≡ type_kind_at t.rows.now t.lists.now t.counts ty → Parted (ticket_of t) t.lists.now ty (Parts.Fields a) n
+  unfolding read_word
+  parted_fields {a = a} {n} (inl p) e = fielded (TypeKind.Struct a n) a n (sym e ∙ p) refl refl (λ rd s o. refl)
+  parted_fields {a = a} {n} (inr p) e = fielded (TypeKind.Tuple a n) a n (sym e ∙ p) refl refl (λ rd s o. refl)
+
+  -- a type by its parts
+  pub read_parted : {p : Parts} {n : ℕ} → Parted (ticket_of t) t.lists.now ty p n → (d s o : ℕ) → (d ≡ 0 → ⊥)
+      → read_bytes_as_type (ticket_of t) d s ty o ≡ gathered ty (read_fields (ticket_of t) (λ t' p. read_bytes_as_type (ticket_of t) (d - 1) s t' p) o (part_types t.lists.now p 0 n))
+  read_parted q d s o g = read_deeper d s o g ∙ q.read (λ t' p. read_bytes_as_type (ticket_of t) (d - 1) s t' p) s o

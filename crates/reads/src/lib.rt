@@ -2,360 +2,210 @@
 // instruction that fills it.
 #![tactic(auto)]
 
-ghost use Rattle.std.specs.Prelude.{◌≡◌, List, ℕ, ◌+◌, ◌-◌, ◌/◌, ◌≤◌, length};
-ghost use Rattle.std.proofs.lemmas.List.Edits.{sets};
+ghost use Rattle.std.specs.Prelude.{◌≡◌, ◌+◌, ◌≤◌, Ok};
 ghost use Rattle.spec.specs.Hir as hir;
-ghost use Rattle.spec.specs.Ticket.{Tables};
-ghost use Rattle.spec.specs.Readable.{Readable};
-ghost use Rattle.spec.specs.Allocation.{type_size};
-ghost use Rattle.spec.specs.ReadBytes.{read_bool_byte, read_fields, read_bytes_as_type, read_location};
+ghost use Rattle.spec.specs.Ticket.{Tables as Ticket};
+ghost use Rattle.spec.specs.ReadBytes.{read_bool_byte, read_plain, read_fields, read_bytes_as_type, read_location};
 ghost use Rattle.emission.specs.Appends.{Room};
-ghost use Rattle.tables.specs.Tables.{type_kind_at, size_at, tables_of, Sized};
-ghost use Rattle.values.specs.Left.{bufs, counters_in, value_words, MeetsValue, MeetsList};
-ghost use Rattle.reads.specs.Reading.{at_of, reading_of, part_type, part_types, leaf_read, plain_of, gathered_of, LeafRoom, TypeRoom, PartsRoom};
+ghost use Rattle.emission.specs.Temporaries.{location};
+ghost use Rattle.tables.specs.Ticket.{ticket_of};
+ghost use Rattle.places.specs.Abstract.{location_from};
+ghost use Rattle.values.specs.declared.Lowering.{Lowering as Lowers};
+ghost use Rattle.values.specs.Left.{counters_in, MeetsValue, MeetsList};
+ghost use Rattle.reads.specs.Reading.{at_of, part_type, part_types, size_of, TypeRoom, PartsRoom};
 
+use answers::{Refusal, Refused};
 use lir::{
     BitOperand, ByteOperand, ByteStorage, Bytes, InstructionKind, NodeId, Purpose, Source,
     StorageId,
 };
-use tables::{Counts, TypeKind};
-use values::{Listed, Lowered, Repr, State, Value};
+use places::Location;
+use tables::{Tables, TypeKind};
+use values::{Lowering, Repr, Value};
 
-// The node whose own step it is.
-#[derive(Clone, Copy)]
+const TYPE_DEPTH_LIMIT: u64 = 16;
+
+/// The node whose own step it is.
+#[derive(Clone, Copy, Debug, PartialEq, Eq)]
 pub struct At {
     pub line: u64,
     pub node: NodeId,
     pub ty: u64,
 }
 
-// A type that is read at once.
-#[derive(Drop)]
-pub enum Leaf {
-    Unit,
-    Bool,
-    Plain,
-    Refused,
+impl At {
+    /// A refusal is told for the node's line.
+    pub fn refuse(self, refusal: Refusal) -> Refused<Refusal>
+        ensures { result ≡ record { refusal = refusal; line = self.line } }
+    {
+        Refused {
+            refusal,
+            line: self.line,
+        }
+    }
 }
 
 // The types of an aggregate's parts: an array's, all one; or a struct's and a tuple's, from a place in the lists on.
 #[derive(Clone, Copy)]
-pub enum Parts {
+enum Parts {
     Elements(u64),
     Fields(u64),
 }
 
-// How a type is read; with the number of its parts.
-#[derive(Drop)]
-pub enum Reading {
-    One(Leaf),
-    Many(Parts, u64),
-}
-
-// A part's type, and its size.
-#[derive(Drop)]
-pub struct Part {
-    pub ty: u64,
-    pub size: u64,
-}
-
-fn reading_of(kind: TypeKind) -> Reading
-    ensures { result ≡ reading_of kind }
-{
-    match kind {
-        TypeKind::Unit => Reading::One(Leaf::Unit),
-        TypeKind::Bool => Reading::One(Leaf::Bool),
-        TypeKind::Bits(_) => Reading::One(Leaf::Plain),
-        TypeKind::Float(_) => Reading::One(Leaf::Refused),
-        TypeKind::Pointer => Reading::One(Leaf::Plain),
-        TypeKind::Array(t, n) => Reading::Many(Parts::Elements(t), n),
-        TypeKind::Struct(a, n) => Reading::Many(Parts::Fields(a), n),
-        TypeKind::Tuple(a, n) => Reading::Many(Parts::Fields(a), n),
-        TypeKind::Opaque(_) => Reading::One(Leaf::Plain),
+impl Parts {
+    // The type of part i.
+    fn ty(self, tables: &Tables<'_>, i: u64) -> u64
+        ensures { result ≡ part_type tables.now.lists.now self i }
+    {
+        match self {
+            Parts::Elements(ty) => ty,
+            Parts::Fields(start) => tables.list_at(start, i),
+        }
     }
-}
-
-fn reading_at(rows: &[u64], lists: &[u64], counts: Counts, ty: u64) -> Reading
-    requires { Sized counts }
-    ensures { result ≡ reading_of (type_kind_at rows.now lists.now counts ty) }
-{
-    reading_of(tables::type_at(rows, lists, counts, ty))
-}
-
-fn part_type(lists: &[u64], parts: Parts, i: u64) -> u64
-    ensures { result ≡ part_type lists.now parts i }
-{
-    match parts {
-        Parts::Elements(t) => t,
-        Parts::Fields(a) => tables::list_at(lists, a, i),
-    }
-}
-
-// Part i.
-fn part_at(rows: &[u64], lists: &[u64], counts: Counts, parts: Parts, i: u64) -> Part
-    requires { Sized counts }
-    ensures { (result.ty ≡ part_type lists.now parts i) × (result.size ≡ size_at rows.now counts (part_type lists.now parts i)) }
-{
-    let ty = part_type(lists, parts, i);
-    let size = tables::type_size(rows, counts, ty);
-    Part { ty, size }
-}
-
-// ---------------------------------------------------------------- types that are read at once
-
-// Bytes that stand where they are.
-fn read_plain(s: State, storage: StorageId, ty: u64, o: u64, size: u64) -> Lowered
-    ensures { result ≡ Lowered.Done (plain_of storage ty o size) s }
-{
-    Lowered::Done(
-        Value {
-            ty,
-            repr: Repr::Bytes(Bytes {
-                source: Source::Storage(ByteStorage { storage, offset: o }),
-                count: size,
-                total: size,
-            }),
-        },
-        s,
-    )
 }
 
 // A byte that is a Bool, as a new bit.
-fn read_bool(
-    code: &mut [u8],
-    store: &mut [u8],
-    s: State,
-    storage: StorageId,
-    ty: u64,
-    o: u64,
-) -> Lowered
-    requires { Room 2 s.counters }
-    ensures { (T : Tables) (h : hir.At) (n stack : List ℕ) → h.node ≡ s.counters.node.0 → MeetsValue (bufs code.old store.old n stack) s (read_bool_byte T storage.0 ty o h (counters_in s)) (bufs code.new store.new n stack) result }
+fn read_bool(l: &mut Lowering<'_>, storage: StorageId, ty: u64, o: u64) -> Value
+    requires { Room 2 l.old.out }
+    ensures { (T : Ticket) (h : hir.At) → h.node ≡ l.old.out.node.0 → MeetsValue l.old (read_bool_byte T storage.0 ty o h (counters_in l.old)) l.new (Ok result) }
 {
-    let counters = s.counters;
-    let new = emission::allocate_bit_temporary(store, counters, Purpose::ReadBool);
-    let id = new.id;
-    let next = new.counters;
+    let id = l.out.allocate_bit_temporary(Purpose::ReadBool);
     let from = ByteStorage { storage, offset: o };
-    let kind = InstructionKind::ByteToBit(id, ByteOperand::Storage(from));
-    let after = emission::emit(code, next, kind);
-    Lowered::Done(
-        Value {
-            ty,
-            repr: Repr::Bit(BitOperand::Storage(id)),
-        },
-        State {
-            counters: after,
-            top: s.top,
-        },
-    )
-}
-
-// A type without parts; a float is refused.
-fn read_leaf(
-    rows: &[u64],
-    counts: Counts,
-    code: &mut [u8],
-    store: &mut [u8],
-    s: State,
-    storage: StorageId,
-    ty: u64,
-    o: u64,
-    leaf: Leaf,
-    h: At,
-) -> Lowered
-    requires { (Sized counts) × (LeafRoom leaf s) × (o + size_at rows.now counts ty ≤ 4294967296) }
-    ensures { (T : Tables) (n stack : List ℕ) → type_size T ty ≡ size_at rows.now counts ty → h.node.0 ≡ s.counters.node.0 → MeetsValue (bufs code.old store.old n stack) s (leaf_read T storage.0 ty o leaf (at_of h) (counters_in s)) (bufs code.new store.new n stack) result }
-{
-    match leaf {
-        Leaf::Unit => Lowered::Done(
-            Value {
-                ty,
-                repr: Repr::Unit,
-            },
-            s,
-        ),
-        Leaf::Bool => read_bool(code, store, s, storage, ty, o),
-        Leaf::Plain => read_plain(s, storage, ty, o, tables::type_size(rows, counts, ty)),
-        Leaf::Refused => Lowered::Refused(23, h.line),
+    l.out
+        .emit(InstructionKind::ByteToBit(id, ByteOperand::Storage(from)));
+    Value {
+        ty,
+        repr: Repr::Bit(BitOperand::Storage(id)),
     }
 }
 
-// ---------------------------------------------------------------- aggregates
-
-// How many records stand between two tops of the stack.
-fn records_between(from: usize, to: usize) -> u64
-    ensures { result ≡ (to - from) / 8 }
+// Bytes that stand where they are.
+fn read_plain(tables: &Tables<'_>, storage: StorageId, ty: u64, o: u64) -> Value
+    requires { o + size_of (ticket_of tables.now) ty ≤ 4294967296 }
+    ensures { (l : Lowers) (h : hir.At) → MeetsValue l (read_plain (ticket_of tables.now) storage.0 ty o h (counters_in l)) l (Ok result) }
 {
-    if from < to {
-        ((to - from) / 8) as u64
-    } else {
-        0
+    let size = tables.type_size(ty);
+    Value {
+        ty,
+        repr: Repr::Bytes(Bytes {
+            source: Source::Storage(ByteStorage { storage, offset: o }),
+            count: size,
+            total: size,
+        }),
     }
 }
 
-// The head of an aggregate whose n parts were read.
-pub fn gathered(ty: u64, n: u64, from: usize, listed: Listed) -> Lowered
-    ensures { result ≡ gathered_of ty n from listed }
-{
-    match listed {
-        Listed::Refused(x, y) => Lowered::Refused(x, y),
-        Listed::Done(s) => Lowered::Done(
-            Value {
-                ty,
-                repr: Repr::Aggregate(n, records_between(from, s.top)),
-            },
-            s,
-        ),
-    }
-}
-
-// Stores a part's head.
-pub fn store_head(stack: &mut [u64], at: usize, v: Value)
-    requires { at + 8 ≤ length stack.old }
-    ensures { stack.new ≡ sets stack.old at (value_words v) }
-{
-    values::store8(stack, at, values::value_words(v));
-}
-
-// Storage `storage` read from byte o on as the type ty. Types refer to less deep ones; `depth` falls with each.
+/// Storage `storage` read from byte o on as the type ty. Types refer to less deep ones; `depth` falls with each.
 #[cycle(read_bytes_as_type_read_parts)]
 pub fn read_bytes_as_type(
-    rows: &[u64],
-    nodes: &[u64],
-    lists: &[u64],
-    counts: Counts,
-    code: &mut [u8],
-    store: &mut [u8],
-    stack: &mut [u64],
-    s: State,
+    tables: &Tables<'_>,
+    l: &mut Lowering<'_>,
     storage: StorageId,
     ty: u64,
     o: u64,
     depth: u64,
     h: At,
-) -> Lowered
-    requires { (Readable (tables_of rows.now nodes.now lists.now counts)) × (TypeRoom (tables_of rows.now nodes.now lists.now counts) h.node.0 ty o s stack.old) }
-    ensures { (n : List ℕ) → MeetsValue (bufs code.old store.old n stack.old) s (read_bytes_as_type (tables_of rows.now nodes.now lists.now counts) depth storage.0 ty o (at_of h) (counters_in s)) (bufs code.new store.new n stack.new) result }
+) -> Result<Value, Refused<Refusal>>
+    requires { TypeRoom (ticket_of tables.now) h.node.0 ty o l.old }
+    ensures { MeetsValue l.old (read_bytes_as_type (ticket_of tables.now) depth storage.0 ty o (at_of h) (counters_in l.old)) l.new result }
 {
     if depth == 0 {
-        return Lowered::Refused(23, h.line);
+        return Err(h.refuse(Refusal::UnsupportedType));
     }
-    let reading = reading_at(rows, lists, counts, ty);
-    match reading {
-        Reading::One(leaf) => read_leaf(rows, counts, code, store, s, storage, ty, o, leaf, h),
-        Reading::Many(parts, n) => {
-            let listed = read_parts(
-                rows,
-                nodes,
-                lists,
-                counts,
-                code,
-                store,
-                stack,
-                s,
-                storage,
-                parts,
-                0,
-                n,
-                o,
-                depth - 1,
-                h,
-            );
-            gathered(ty, n, s.top, listed)
+    let (parts, n) = match tables.type_at(ty) {
+        TypeKind::Unit => {
+            return Ok(Value {
+                ty,
+                repr: Repr::Unit,
+            });
         }
-    }
+        TypeKind::Bool => return Ok(read_bool(l, storage, ty, o)),
+        TypeKind::Bits(_) | TypeKind::Pointer | TypeKind::Opaque(_) => {
+            return Ok(read_plain(tables, storage, ty, o));
+        }
+        TypeKind::Float(_) => return Err(h.refuse(Refusal::UnsupportedType)),
+        TypeKind::Array(element, n) => (Parts::Elements(element), n),
+        TypeKind::Struct(start, n) | TypeKind::Tuple(start, n) => (Parts::Fields(start), n),
+    };
+    let top = l.top;
+    read_parts(tables, l, storage, parts, n, o, depth - 1, h)?;
+    let records = (l.top - top) / 8;
+    Ok(Value {
+        ty,
+        repr: Repr::Aggregate(n, records as u64),
+    })
 }
 
-// n parts from part i on, each read behind the one before: elements of an array, or fields of a struct or a tuple.
+// An aggregate's n parts, each read behind the one before: elements of an array, or fields of a struct or a tuple.
 #[cycle(read_bytes_as_type_read_parts)]
 fn read_parts(
-    rows: &[u64],
-    nodes: &[u64],
-    lists: &[u64],
-    counts: Counts,
-    code: &mut [u8],
-    store: &mut [u8],
-    stack: &mut [u64],
-    s: State,
+    tables: &Tables<'_>,
+    l: &mut Lowering<'_>,
     storage: StorageId,
     parts: Parts,
-    i: u64,
     n: u64,
     o: u64,
     depth: u64,
     h: At,
-) -> Listed
-    requires { (Readable (tables_of rows.now nodes.now lists.now counts)) × (PartsRoom (tables_of rows.now nodes.now lists.now counts) h.node.0 (part_types lists.now parts i n) o s stack.old) × (i + n ≤ 4294967296) }
-    ensures { (m : List ℕ) → MeetsList n (bufs code.old store.old m stack.old) s (read_fields (tables_of rows.now nodes.now lists.now counts) (λ t p. read_bytes_as_type (tables_of rows.now nodes.now lists.now counts) depth storage.0 t p) o (part_types lists.now parts i n) (at_of h) (counters_in s)) (bufs code.new store.new m stack.new) result }
+) -> Result<(), Refused<Refusal>>
+    requires { PartsRoom (ticket_of tables.now) h.node.0 (part_types tables.now.lists.now parts 0 n) o l.old }
+    ensures { MeetsList n l.old (read_fields (ticket_of tables.now) (λ t p. read_bytes_as_type (ticket_of tables.now) depth storage.0 t p) o (part_types tables.now.lists.now parts 0 n) (at_of h) (counters_in l.old)) l.new result }
 {
-    // m parts are left, from part j on, at byte p.
-    let mut t = s;
-    let mut j = i;
-    let mut m = n;
-    let mut p = o;
-    while m != 0 {
-        let top = t.top;
-        let part = part_at(rows, lists, counts, parts, j);
-        match read_bytes_as_type(
-            rows,
-            nodes,
-            lists,
-            counts,
-            code,
-            store,
-            stack,
-            values::at_top(t, top + 8),
-            storage,
-            part.ty,
-            p,
-            depth,
-            h,
-        ) {
-            Lowered::Refused(x, y) => {
-                return Listed::Refused(x, y);
-            }
-            Lowered::Done(v, s1) => {
-                store_head(stack, top, v);
-                t = s1;
-                j += 1;
-                m -= 1;
-                p += part.size;
-            }
-        }
+    let mut at = o;
+    for i in 0..n {
+        let ty = parts.ty(tables, i);
+        let top = l.top;
+        l.top += 8;
+        let head = read_bytes_as_type(tables, l, storage, ty, at, depth, h)?;
+        values::store8(l.stack, top, values::value_words(head));
+        at += tables.type_size(ty);
     }
-    Listed::Done(t)
+    Ok(())
 }
 
-// A location's value: a bit, or the bytes that stand there.
+/// A location's value: a bit, or the bytes that stand there.
 pub fn read_location(
-    rows: &[u64],
-    nodes: &[u64],
-    lists: &[u64],
-    counts: Counts,
-    code: &mut [u8],
-    store: &mut [u8],
-    stack: &mut [u64],
-    s: State,
-    storage: StorageId,
-    offset: u64,
-    ty: u64,
-    bit: bool,
+    tables: &Tables<'_>,
+    l: &mut Lowering<'_>,
+    location: Location,
     h: At,
-) -> Lowered
-    requires { (Readable (tables_of rows.now nodes.now lists.now counts)) × (TypeRoom (tables_of rows.now nodes.now lists.now counts) h.node.0 ty offset s stack.old) }
-    ensures { (n : List ℕ) → MeetsValue (bufs code.old store.old n stack.old) s (read_location (tables_of rows.now nodes.now lists.now counts) (record { storage = storage.0; offset = offset; ty = ty; is_bit = bit }) (at_of h) (counters_in s)) (bufs code.new store.new n stack.new) result }
+) -> Result<Value, Refused<Refusal>>
+    requires { TypeRoom (ticket_of tables.now) h.node.0 location.ty location.offset l.old }
+    ensures { MeetsValue l.old (read_location (ticket_of tables.now) (location_from location) (at_of h) (counters_in l.old)) l.new result }
 {
-    if bit {
-        return Lowered::Done(
-            Value {
-                ty,
-                repr: Repr::Bit(BitOperand::Storage(storage)),
-            },
-            s,
-        );
+    if location.bit {
+        return Ok(Value {
+            ty: location.ty,
+            repr: Repr::Bit(BitOperand::Storage(location.storage)),
+        });
     }
     read_bytes_as_type(
-        rows, nodes, lists, counts, code, store, stack, s, storage, ty, offset, 16, h,
+        tables,
+        l,
+        location.storage,
+        location.ty,
+        location.offset,
+        TYPE_DEPTH_LIMIT,
+        h,
     )
+}
+
+/// A temporary's value, of its whole storage.
+pub fn read_temporary(
+    tables: &Tables<'_>,
+    l: &mut Lowering<'_>,
+    storage: StorageId,
+    ty: u64,
+    h: At,
+) -> Result<Value, Refused<Refusal>>
+    requires { TypeRoom (ticket_of tables.now) h.node.0 ty 0 l.old }
+    ensures { MeetsValue l.old (read_location (ticket_of tables.now) (location storage.0 ty) (at_of h) (counters_in l.old)) l.new result }
+{
+    let location = Location {
+        storage,
+        offset: 0,
+        ty,
+        bit: ty == 0,
+    };
+    read_location(tables, l, location, h)
 }

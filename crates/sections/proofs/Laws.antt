@@ -1,4 +1,4 @@
--- What the runs of the lowering leave, where the listing's sections end, and the listing as its sections one after the other.
+-- What the runs of the lowering leave, where the listing's halves end, and the listing as one half behind the other.
 use Prim.Native.Nat.{ℕ, ◌+◌, ◌-◌, ◌≤◌, ◌<◌}
 use mathlib.Core.Path.{◌≡◌, refl, sym, ap, subst, ◌∙◌}
 use mathlib.Core.Bool.{Bool, true, false}
@@ -7,7 +7,11 @@ use native.Mathlib.Omega.{arith}
 use lib.Dec.{leb}
 use borrow.Author.Tests.{le-leb, lt-leb}
 use lib.ListN.{length, take, drop, get_or, length-append, length-drop, drop_of_length-le}
-use lib.Seq.{sets, sets-eq, length-sets, length-take-le, take_at}
+use lib.Seq.{sets, sets-eq, length-sets, length-take-le, take_at, take_all}
+use Rattle.std.specs.Prelude.{Result, Ok, Err}
+use Rattle.std.specs.Result.{IsErrAnd}
+use Rattle.std.proofs.lemmas.Result.{err_from_is_err_and}
+use Rattle.std.proofs.Common.{MutBor}
 use Rattle.spec.specs.Hir.{Expr}
 use Rattle.spec.specs.Ticket.{Tables, expr_at, nowhere}
 use Rattle.spec.specs.Readable.{Readable, root}
@@ -16,380 +20,263 @@ use Rattle.spec.specs.Monad.{Outcome, Out, done, refused}
 use Rattle.spec.specs.Monad as monad
 use Rattle.spec.specs.Lower.{lower_expression, lowered}
 use Rattle.spec.specs.Print.{print_listing}
-use Rattle.spec.specs.Answer.{ascending, accepted, listing_of, fitted, of_lowering, answer, left_in}
+use Rattle.spec.specs.Answer.{ascending, accepted, listing_of, fitted, of_lowering, left_in}
 use Rattle.spec.specs.Answer as spec-answer
 use Rattle.spec.proofs.CostRoom.{room}
 use Rattle.text.proofs.Copying.{middle_is}
-use Rattle.text.specs.Put.{Put, sat, last, sets_append, then}
+use Rattle.text.specs.Put.{Put, sat, last, sets_append}
+use Rattle.text.specs.Writes.{Writes, writes_then}
+use Rattle.text.specs.declared.writer.Writer.{Writer}
 use Rattle.tables.specs.declared.Counts.{Counts}
+use Rattle.tables.specs.declared.lookups.Tables as code
 use Rattle.tables.specs.Tables.{tables_of, storage_line, node_line}
+use Rattle.tables.specs.Ticket.{ticket_of}
 use Rattle.tables.proofs.Laws.{length_tab}
-use Rattle.values.specs.declared.State.{State}
+use Rattle.answers.specs.declared.Refusal.{Refusal}
+use Rattle.answers.specs.declared.Refused.{Refused}
+use Rattle.answers.specs.Refusals.{refusal_number}
+use Rattle.answers.specs.Answers.{Answers}
+use Rattle.emission.specs.declared.emitter.Emitter.{Emitter}
+use Rattle.emission.specs.Appends.{Begins}
+use Rattle.values.specs.declared.Lowering.{Lowering}
 use Rattle.values.specs.declared.Value.{Value as Val}
-use Rattle.values.specs.declared.Lowered.{Lowered}
-use Rattle.values.specs.Heads.{root as root-head, parts_of, head_of, Sound_value}
-use Rattle.values.specs.Left.{Bufs, bufs, counters_in, Left, CaseValue, MeetsValue, DoneValue}
-use Rattle.values.specs.Stack.{heads, stands_left}
+use Rattle.values.specs.Heads.{parts_of}
+use Rattle.values.specs.Left.{counters_in, Left, IsValue, MeetsValue, DoneValue}
+use Rattle.values.specs.Stack.{heads, Stands, stands_left}
 use Rattle.parts.specs.Meets.{left_fits, left_heads}
 use Rattle.reads.specs.Reading.{weight_of}
 use Rattle.printing.specs.Marks.{marks_from, narrowed_lines}
 use Rattle.printing.proofs.Laws.{value_printed, marks_ascending}
-use Rattle.answers.specs.declared.Answer.{Answer}
-use Rattle.sections.specs.declared.Sections.{Sections}
-use Rattle.sections.specs.declared.Measured.{Measured}
-use Rattle.answers.specs.Answers.{Answers}
 use Rattle.lowering.specs.Rooms.{TreeRoom}
-use Rattle.sections.specs.Sections.{start_of, Ready, storages_text, narrowed_text, code_text, end_text, front_text, back_text, print_of, end_printed, Printable, Spans, Ends, Sectioned, Held, CaseMeasured, Measures, StoragesPut, CaseEnd, CodePut, ListingPut}
+use Rattle.sections.specs.declared.Sections.{Sections}
+use Rattle.sections.specs.Sections.{Ready, Starts, storages_text, narrowed_text, code_text, end_text, front_text, back_text, print_of, end_printed, Printable, Finished, Sectioned, Halves, Measures, ListingPut}
 
 -- ---------------------------------------------------------------- tables
 
-module _ (rows nodes lists : List ℕ) (n : Counts) where
-  pub storage_count : length (tables_of rows nodes lists n).storages ≡ n.storages
+module _ (rows lists : List ℕ) (n : Counts) where
+  pub storage_count : length (tables_of rows lists n).storages ≡ n.storages
   unfolding tables_of
   storage_count = length_tab (storage_line rows lists n) 0 n.storages
 
-  node_count : length (tables_of rows nodes lists n).nodes ≡ n.nodes
+  pub node_count : length (tables_of rows lists n).nodes ≡ n.nodes
   unfolding tables_of
-  node_count = length_tab (node_line nodes lists n) 0 n.nodes
+  node_count = length_tab (node_line rows lists n) 0 n.nodes
 
-  next_is : (tables_of rows nodes lists n).next ≡ n.next
+  pub next_is : (tables_of rows lists n).next ≡ n.next
   unfolding tables_of
   next_is = refl
 
+-- an emitter of nothing yet
+pub starts : (t : code.Tables) {l m : List ℕ} {e : Emitter} {marks stack : MutBor (List ℕ)} → Begins l m t.counts.storages t.counts.next e → Ready (ticket_of t) stack.now
+    → Starts (ticket_of t) (record { out = e; narrowed = marks; stack = stack; top = 0 })
+starts t b R =
+    record {
+      storage = omega (arith, b.storage, storage_count t.rows.now t.lists.now t.counts);
+      temporary = omega (arith, b.temporary, next_is t.rows.now t.lists.now t.counts);
+      instructions = b.instructions;
+      code = b.code_at;
+      store = b.store_at;
+      top = refl;
+      ready = R;
+    }
+
 -- ---------------------------------------------------------------- the root
 
-root_is : (T : Tables) (n : Counts) → length T.nodes ≡ n.nodes → root T ≡ expr_at 64 T (n.nodes - 1)
+root_is : (T : Tables) (k : ℕ) → length T.nodes ≡ k → root T ≡ expr_at 64 T (k - 1)
 unfolding root
-root_is T n e = ap (λ (z : ℕ). expr_at 64 T (z - 1)) e
+root_is T k e = ap (λ (z : ℕ). expr_at 64 T (z - 1)) e
 
-root_lowered : (T : Tables) (n : Counts) → length T.storages ≡ n.storages → T.next ≡ n.next → length T.nodes ≡ n.nodes
-    → lower_expression T (expr_at 64 T (n.nodes - 1)) nowhere (counters_in (start_of n)) ≡ lowered T
-unfolding lowered
-root_lowered T n s t e =
-    sym (
-    ap (λ (z : Expr). lower_expression T z nowhere (record { storage = length T.storages; temporary = T.next })) (root_is T n e)
-    ∙ ap (λ (z : ℕ). lower_expression T (expr_at 64 T (n.nodes - 1)) nowhere (record { storage = z; temporary = T.next })) s
-    ∙ ap (λ (z : ℕ). lower_expression T (expr_at 64 T (n.nodes - 1)) nowhere (record { storage = n.storages; temporary = z })) t)
+module _ (T : Tables) (k : ℕ) {l : Lowering} (s : Starts T l) (e : length T.nodes ≡ k) where
+  root_lowered : lower_expression T (expr_at 64 T (k - 1)) nowhere (counters_in l) ≡ lowered T
+  unfolding lowered
+  root_lowered =
+      sym (
+      ap (λ (z : Expr). lower_expression T z nowhere (record { storage = length T.storages; temporary = T.next })) (root_is T k e)
+      ∙ ap (λ (z : ℕ). lower_expression T (expr_at 64 T (k - 1)) nowhere (record { storage = z; temporary = T.next })) (sym s.storage)
+      ∙ ap (λ (z : ℕ). lower_expression T (expr_at 64 T (k - 1)) nowhere (record { storage = l.out.storage; temporary = z })) (sym s.temporary))
 
-root_room : (T : Tables) (n : Counts) (stack : List ℕ) → length T.storages ≡ n.storages → T.next ≡ n.next → length T.nodes ≡ n.nodes
-    → Ready T stack → TreeRoom T (expr_at 64 T (n.nodes - 1)) (start_of n) stack
-root_room T n stack s t e R =
-    let r = R.readable in
-    let m = room T r in
-    let a = r.storage_count in
-    let b = r.next_most in
-    let w = r.once (weight_of T) in
-    let d = R.deep in
-    subst (λ (x : Expr). TreeRoom T x (start_of n) stack) (root_is T n e)
-    (record {
-      room = record { instructions = omega (arith, m.instructions); storage = omega (arith, m.instructions); temporary = omega (arith, m.instructions) };
-      top = omega arith;
-    })
+  pub root_room : Readable T → TreeRoom T (expr_at 64 T (k - 1)) l
+  root_room r =
+      let m = room T r in
+      let a = r.storage_count in
+      let b = r.next_most in
+      let w = r.once (weight_of T) in
+      let d = s.ready.deep in
+      subst (λ (x : Expr). TreeRoom T x l) (root_is T k e)
+      (record {
+        room = record { instructions = omega (arith, m.instructions, s.instructions); storage = omega (arith, m.instructions, s.storage); temporary = omega (arith, m.instructions, s.temporary) };
+        top = omega (arith, s.top);
+      })
 
-module _ (rows nodes lists : List ℕ) (n : Counts) where
-  pub some_node : {stack : List ℕ} → Ready (tables_of rows nodes lists n) stack → 1 ≤ n.nodes
-  some_node R = let r = R.readable in omega (arith, r.some_node, node_count rows nodes lists n)
-
-  pub root_ready : {stack : List ℕ} {s : State} → s ≡ start_of n → Ready (tables_of rows nodes lists n) stack
-      → Readable (tables_of rows nodes lists n) × TreeRoom (tables_of rows nodes lists n) (expr_at 64 (tables_of rows nodes lists n) (n.nodes - 1)) s stack
-  root_ready {stack} e R =
-      (R.readable, rw e (root_room (tables_of rows nodes lists n) n stack (storage_count rows nodes lists n) (next_is rows nodes lists n) (node_count rows nodes lists n) R))
-
-  pub root_meets : {b : Bufs} {s : State} {b' : Bufs} {r : Lowered} → s ≡ start_of n
-      → MeetsValue b s (lower_expression (tables_of rows nodes lists n) (expr_at 64 (tables_of rows nodes lists n) (n.nodes - 1)) nowhere (counters_in s)) b' r
-      → MeetsValue b (start_of n) (lowered (tables_of rows nodes lists n)) b' r
-  root_meets {b} {s} {b'} {r} e m =
-      let T = tables_of rows nodes lists n in
-      let k : MeetsValue b (start_of n) (lower_expression T (expr_at 64 T (n.nodes - 1)) nowhere (counters_in (start_of n))) b' r =
-      subst (λ (z : State). MeetsValue b z (lower_expression T (expr_at 64 T (n.nodes - 1)) nowhere (counters_in z)) b' r) e m in
-      subst (λ (z : Outcome Value). MeetsValue b (start_of n) z b' r) (root_lowered T n (storage_count rows nodes lists n) (next_is rows nodes lists n) (node_count rows nodes lists n)) k
+  pub root_meets : {l' : Lowering} {r : Result Val (Refused Refusal)}
+      → MeetsValue l (lower_expression T (expr_at 64 T (k - 1)) nowhere (counters_in l)) l' r → MeetsValue l (lowered T) l' r
+  root_meets {l'} {r} m = subst (λ (z : Outcome Value). MeetsValue l z l' r) root_lowered m
 
 -- the stack is as long as it was
 pub ready_kept : {T : Tables} {l l' : List ℕ} → length l' ≡ length l → Ready T l → Ready T l'
-ready_kept e R = record { readable = R.readable; deep = omega (arith, R.deep) }
+ready_kept e R = record { deep = omega (arith, R.deep) }
 
 -- ---------------------------------------------------------------- a run that is done
 
-module _ (n : Counts) {b : Bufs} (v : Value) {c : monad.Counters} {o : Out} {b' : Bufs} (x : Val) {s : State} (l : Left b (start_of n) (parts_of v) c o b' s) (h : head_of x ≡ root-head v) (g : Sound_value x) where
-  pub printable : Printable n b'.stack x s
+module _ (n : ℕ) {T : Tables} {l : Lowering} (s : Starts T l) (e : length T.storages ≡ n) (v : Value) {c : monad.Counters} {o : Out} {l' : Lowering} (x : Val) (a : Left l (parts_of v) c o l') (g : IsValue v x) where
+  empty : l.top ≤ length l.stack.now
+  empty = omega (arith, s.top)
+
+  pub printable : Printable n x l'.stack.now l'.top l'.out
   printable =
-      let z : 0 ≤ length b.stack = omega arith in
-      record { sound = g; fits = left_fits l z; stands = stands_left l z; newer = omega (arith, l.appends.storage) }
-
-  pub end_is : end_printed n b'.stack x s ≡ end_text v c o
-  end_is =
-      let z : 0 ≤ length b.stack = omega arith in
-      let a = l.appends in
-      let i : s.counters.instructions ≡ length o.instructions = omega (arith, a.counted) in
-      let j : s.counters.storage - n.storages ≡ length o.storages = omega (arith, a.storage) in
-      let k : s.counters.temporary ≡ c.temporary = ap (λ (y : monad.Counters). y.temporary) l.numbers in
-      rw (value_printed x (heads b'.stack 0 s.top) v h (left_heads l z), i, j, k)
-
--- ---------------------------------------------------------------- a part of the buffer that is as long as what is put there
-
-filled : (m x : List ℕ) → length m ≡ length x → sets m 0 x ≡ x
-filled m x e =
-    let a : length m ≤ 0 + length x = omega arith in
-    sets-eq x m 0 (omega arith) ∙ ap (λ (z : List ℕ). x ++ z) (drop_of_length-le m a) ∙ append-nil x
-
-front_is : (l x : List ℕ) (end : ℕ) → end ≤ length l → end ≡ length x → x ++ drop end l ≡ sets l 0 x
-front_is l x end h e = let z : 0 + length x ≡ end = omega arith in ap (λ (k : ℕ). x ++ drop k l) (sym z) ∙ sym (sets-eq x l 0 (omega arith))
-
-front_put : (l x y : List ℕ) (end : ℕ) → end ≤ length l → end ≡ length x → y ≡ sets (take end l) 0 x → y ++ drop end l ≡ sets l 0 x
-front_put l x y end h e f = ap (λ (w : List ℕ). w ++ drop end l) (f ∙ filled (take end l) x (length-take-le end l h ∙ e)) ∙ front_is l x end h e
-
-middle_put : (l x y : List ℕ) (from end : ℕ) → from ≤ end → end ≤ length l → end ≡ from + length x → y ≡ sets (take (end - from) (drop from l)) 0 x
-    → take from l ++ (y ++ drop (end - from) (drop from l)) ≡ sets l from x
-middle_put l x y from end h k e f =
-    let d = length-drop from l in
-    let n : end - from ≤ length (drop from l) = omega arith in
-    let t : y ≡ x = f ∙ filled (take (end - from) (drop from l)) x (length-take-le (end - from) (drop from l) n ∙ (omega arith)) in
-    ap (λ (w : List ℕ). take from l ++ (w ++ drop (end - from) (drop from l))) t ∙ middle_is l x from end h k (omega arith)
-
--- whichever answer it was
-as_done : {b : Bufs} {s : State} {x : Outcome Value} {b' : Bufs} {r : Lowered} → MeetsValue b s x b' r
-    → (v : Value) (c : monad.Counters) (o : Out) → x ≡ done v c o → CaseValue b s (done v c o) b' r
-as_done {b} {s} {x} {b'} {r} m v c o e = subst (λ (z : Outcome Value). CaseValue b s z b' r) e m.shown
-
-module _ (T : Tables) (n : Counts) {code marks stack : List ℕ} {b' : Bufs} {r : Lowered} (l : List ℕ) (end : ℕ) (h : end ≤ length l) (m : MeetsValue (bufs code (take end l) marks stack) (start_of n) (lowered T) b' r) where
-  pub storages_put : StoragesPut T end l (b'.store ++ drop end l)
-  storages_put = record { text = λ v c o e f. front_put l (storages_text o) b'.store end h f (by v c o r (as_done m v c o e)) }
-    where
-      by : (v : Value) (c : monad.Counters) (o : Out) (r : Lowered) → CaseValue (bufs code (take end l) marks stack) (start_of n) (done v c o) b' r
-          → b'.store ≡ sets (take end l) 0 (storages_text o)
-      by v c o (Lowered.Done x s) k = k.2.appends.stored.text
-      by v c o (Lowered.Refused i j) k = absurd k
-
-module _ (T : Tables) (n : Counts) {store marks stack : List ℕ} {b' : Bufs} {r : Lowered} (l : List ℕ) (from end : ℕ) (g : from ≤ end) (h : end ≤ length l) (m : MeetsValue (bufs (take (end - from) (drop from l)) store marks stack) (start_of n) (lowered T) b' r) where
-  pub code_put : CodePut T n from end l (take from l ++ (b'.code ++ drop (end - from) (drop from l))) b'.stack r
-  code_put =
       record {
-        text = λ v c o e f. middle_put l (code_text o) b'.code from end g h f (by v c o r (as_done m v c o e));
-        last = λ v c o e. last_by v c o r (as_done m v c o e);
+        sound = g.sound;
+        fits = left_fits a empty;
+        stands = subst (λ (k : ℕ). Stands l'.stack.now k l'.top) s.top (stands_left a empty);
+        newer = omega (arith, a.appends.storage, s.storage, e);
       }
-    where
-      before : Bufs
-      before = bufs (take (end - from) (drop from l)) store marks stack
 
-      by : (v : Value) (c : monad.Counters) (o : Out) (r : Lowered) → CaseValue before (start_of n) (done v c o) b' r → b'.code ≡ sets (take (end - from) (drop from l)) 0 (code_text o)
-      by v c o (Lowered.Done x s) k = k.2.appends.coded.text
-      by v c o (Lowered.Refused i j) k = absurd k
+  pub end_is : end_printed n x l'.stack.now l'.top l'.out ≡ end_text v c o
+  end_is =
+      let h : heads l'.stack.now 0 l'.top ≡ parts_of v = subst (λ (k : ℕ). heads l'.stack.now k l'.top ≡ parts_of v) s.top (left_heads a empty) in
+      let i : l'.out.instructions ≡ length o.instructions = omega (arith, a.appends.counted, s.instructions) in
+      let j : l'.out.storage - n ≡ length o.storages = omega (arith, a.appends.storage, s.storage, e) in
+      let k : l'.out.temporary ≡ c.temporary = ap (λ (y : monad.Counters). y.temporary) a.numbers in
+      rw (value_printed x (heads l'.stack.now 0 l'.top) v g.head h, i, j, k)
 
-      last_by : (v : Value) (c : monad.Counters) (o : Out) (r : Lowered) → CaseValue before (start_of n) (done v c o) b' r → CaseEnd n v c o b'.stack r
-      last_by v c o (Lowered.Done x s) k = (printable n v x k.2 k.0 k.1, end_is n v x k.2 k.0 k.1)
-      last_by v c o (Lowered.Refused i j) k = absurd k
+  pub lines_are : n ≤ length l.narrowed.now → ((i : ℕ) → get_or l.narrowed.now i 0 ≡ 0) → narrowed_lines (marks_from n 0 l'.narrowed.now) ≡ narrowed_text T o
+  lines_are h z =
+      ap (λ (y : List ℕ). narrowed_lines (marks_from n 0 y)) a.narrows
+      ∙ ap narrowed_lines (marks_ascending n 0 l.narrowed.now o.narrowed (omega arith) z)
+      ∙ ap (λ (y : ℕ). narrowed_lines (ascending y 0 o.narrowed)) (sym e)
 
 -- ---------------------------------------------------------------- measuring
 
-sat_twice : (p q r n : ℕ) → q ≡ sat (0 + n) → r ≡ sat (p + q) → r ≡ sat (p + n)
+-- where a text ends that is put at the start
+at_start : (q at n : ℕ) → at ≡ 0 → q ≡ sat (at + n) → q ≡ sat n
 unfolding sat
-sat_twice p q r n e f = omega arith
+at_start q at n z e = omega arith
 
-sat_zero : (q n : ℕ) → q ≡ sat (0 + n) → q ≡ sat n
+behind_front : (p q at n r : ℕ) → at ≡ 0 → q ≡ sat (at + n) → r ≡ sat (p + q) → r ≡ sat (p + n)
 unfolding sat
-sat_zero q n e = omega arith
-
-sectioned : (T : Tables) (n : Counts) {b b' : Bufs} {x : Val} {s : State} {m : Sections} (d : DoneValue b (start_of n) (lowered T) b' x s)
-    → length T.storages ≡ n.storages → n.storages ≤ length b.narrowed → ((i : ℕ) → get_or b.narrowed i 0 ≡ 0)
-    → Spans s.counters.stored s.counters.at (narrowed_lines (marks_from n.storages 0 b'.narrowed)) (end_printed n b'.stack x s) m
-    → Sectioned T b'.narrowed m
-sectioned T n {b} {b'} {x} {s} {m} d e h z p =
-    let l = d.left in
-    let k : narrowed_lines (marks_from n.storages 0 b'.narrowed) ≡ narrowed_text T d.out =
-    ap (λ (y : List ℕ). narrowed_lines (marks_from n.storages 0 y)) l.narrows
-    ∙ ap narrowed_lines (marks_ascending n.storages 0 b.narrowed d.out.narrowed (omega arith) z)
-    ∙ ap (λ (y : ℕ). narrowed_lines (ascending y 0 d.out.narrowed)) (sym e) in
-    let t = end_is n d.v x l d.head d.sound in
-    record {
-      value = d.v;
-      counters = counters_in s;
-      out = d.out;
-      is = d.is;
-      marks = ap (λ (y : ℕ). narrowed_lines (marks_from y 0 b'.narrowed)) e ∙ k;
-      spans =
-          record {
-            storages = p.storages ∙ sat_zero s.counters.stored (length (storages_text d.out)) l.appends.stored.next;
-            narrowed = p.narrowed ∙ ap (λ (y : List ℕ). sat (m.storages + length y)) k;
-            code = sat_twice m.narrowed s.counters.at m.code (length (code_text d.out)) l.appends.coded.next p.code;
-            end = p.end ∙ ap (λ (y : List ℕ). sat (m.code + length y)) t;
-          };
-    }
-
--- where the sections end, whatever is put there
-sat_behind : (p q a b c n : ℕ) → b ≡ sat (a + n) → q ≡ sat (p + a) → c ≡ sat (p + b) → c ≡ sat (q + n)
-unfolding sat
-sat_behind p q a b c n e f g = omega arith
-
-ends_spans : {stored at : ℕ} {lines last store code store' code' : List ℕ} {m : Sections} → Ends stored at lines last store code store' code' m → Spans stored at lines last m
-ends_spans {stored} {at} {lines} {last} {m = m} p =
-    record {
-      storages = p.storages;
-      narrowed = p.front.next ∙ ap (λ (y : ℕ). sat (y + length lines)) (sym p.storages);
-      code = p.code_end;
-      end = sat_behind m.narrowed m.code at p.behind m.end (length last) p.back.next p.code_end p.end;
-    }
+behind_front p q at n r z e f = omega arith
 
 -- what is put at the start of a slice stands there, if it has room
-put_taken : {l x l' : List ℕ} {r : ℕ} → Put l 0 x l' r → length x ≤ length l' → take (length x) l' ≡ x
-put_taken {l} {x} {l'} p h =
-    let n : length l' ≡ length l = ap length p.text ∙ length-sets l 0 x in
-    ap (λ (y : List ℕ). take (length x) y) (p.text ∙ sets-eq x l 0 (omega arith)) ∙ take_at x (drop (0 + length x) l) (length x) refl
+writes_taken : {w : Writer} {x : List ℕ} {w' : Writer} → Writes w x w' → w.at ≡ 0 → length x ≤ length w'.buf.now → take (length x) w'.buf.now ≡ x
+writes_taken {w} {x} {w'} p z h =
+    let n : length w'.buf.now ≡ length w.buf.now = ap length p.put.text ∙ length-sets w.buf.now w.at x in
+    let t : w'.buf.now ≡ sets w.buf.now 0 x = p.put.text ∙ ap (λ (k : ℕ). sets w.buf.now k x) z in
+    ap (λ (y : List ℕ). take (length x) y) (t ∙ sets-eq x w.buf.now 0 (omega arith)) ∙ take_at x (drop (0 + length x) w.buf.now) (length x) refl
 
-pub held : (T : Tables) (n : Counts) {b b' : Bufs} {x : Val} {s : State} {store code : List ℕ} {m : Sections} (d : DoneValue b (start_of n) (lowered T) b' x s)
-    → length T.storages ≡ n.storages → n.storages ≤ length b.narrowed → ((i : ℕ) → get_or b.narrowed i 0 ≡ 0)
-    → Ends s.counters.stored s.counters.at (narrowed_lines (marks_from n.storages 0 b'.narrowed)) (end_printed n b'.stack x s) b'.store b'.code store code m
-    → Held T b'.narrowed store code m
-unfolding sectioned
-held T n {b} {b'} {x} {s} {store} {code} {m} d e h z p =
-    let l = d.left in
-    let S = sectioned T n d e h z (ends_spans p) in
-    let k : narrowed_lines (marks_from n.storages 0 b'.narrowed) ≡ narrowed_text T d.out = ap (λ (y : ℕ). narrowed_lines (marks_from y 0 b'.narrowed)) (sym e) ∙ S.marks in
-    let t = end_is n d.v x l d.head d.sound in
-    record {
-      sections = S;
-      front = put_taken (then l.appends.stored (subst (λ (y : List ℕ). Put b'.store s.counters.stored y store m.narrowed) k p.front));
-      back = put_taken (then l.appends.coded (subst (λ (y : List ℕ). Put b'.code s.counters.at y code p.behind) t p.back));
-    }
+-- a lowering has one outcome
+done_same : (T : Tables) {v : Value} {c : monad.Counters} {o : Out} {v1 : Value} {c1 : monad.Counters} {o1 : Out}
+    → lowered T ≡ done v c o → lowered T ≡ done v1 c1 o1 → (v ≡ v1) × (c ≡ c1) × (o ≡ o1)
+done_same T e f = (cc, cc, cc)
+
+done_not : (T : Tables) {v : Value} {c : monad.Counters} {o : Out} {n k : ℕ} → lowered T ≡ refused n k → lowered T ≡ done v c o → ⊥
+done_not T e f = let z : ◌≡◌ {A = ℕ} 0 1 = cc in omega arith
+
+module _ (T : Tables) (n : ℕ) {l l' : Lowering} {e2 : Emitter} {x : Val} {m : Sections} (s : Starts T l) (e : length T.storages ≡ n) (d : DoneValue l (lowered T) l' x) (f : Finished n l'.narrowed.now x l'.stack.now l'.top l'.out e2 m)
+    (h : n ≤ length l.narrowed.now) (z : (i : ℕ) → get_or l.narrowed.now i 0 ≡ 0) where
+  front_written : Writes l.out.store (front_text T d.out) e2.store
+  front_written =
+      writes_then d.left.appends.stored (subst (λ (y : List ℕ). Writes l'.out.store y e2.store) (lines_are n s e d.v x d.left d.shows h z) f.front)
+
+  back_written : Writes l.out.code (back_text d.v (counters_in l') d.out) e2.code
+  back_written = writes_then d.left.appends.coded (subst (λ (y : List ℕ). Writes l'.out.code y e2.code) (end_is n s e d.v x d.left d.shows) f.back)
+
+  pub measured : Measures T e2.store.buf.now e2.code.buf.now (Ok m)
+  measured =
+      record {
+        shown =
+            record {
+              value = d.v;
+              counters = counters_in l';
+              out = d.out;
+              is = d.is;
+              front = f.first ∙ at_start e2.store.at l.out.store.at (length (front_text T d.out)) s.store front_written.put.next;
+              end = behind_front m.front e2.code.at l.out.code.at (length (back_text d.v (counters_in l') d.out)) m.end s.code back_written.put.next f.end;
+            };
+        halves =
+            record {
+              front = λ v c o i. let q = done_same T d.is i in rw (← q.2) (writes_taken front_written s.store);
+              back = λ v c o i. let q = done_same T d.is i in rw (← q.0, ← q.1, ← q.2) (writes_taken back_written s.code);
+            };
+      }
+
+pub measured_refused : {T : Tables} {store code : List ℕ} {x : Refused Refusal} → lowered T ≡ refused (refusal_number x.refusal) x.line → Measures T store code (Err x)
+measured_refused {T} e = record { shown = e; halves = record { front = λ v c o i h. absurd (done_not T e i); back = λ v c o i h. absurd (done_not T e i) } }
 
 -- which it was
-module _ {T : Tables} {l store code : List ℕ} {r : Measured} (k : Measures T l store code r) where
-  pub measured_done : {m : Sections} → r ≡ Measured.Done m → Held T l store code m
-  measured_done e = subst (λ (z : Measured). CaseMeasured T l store code z) e k.shown
+module _ {T : Tables} {store code : List ℕ} {r : Result Sections (Refused Refusal)} (k : Measures T store code r) where
+  pub sectioned : {m : Sections} → r ≡ Ok m → Sectioned T m
+  sectioned {m} e = let g = rw e at k in g.shown
 
-  pub measured_refused : {i j : ℕ} → r ≡ Measured.Refused i j → lowered T ≡ refused i j
-  measured_refused e = subst (λ (z : Measured). CaseMeasured T l store code z) e k.shown
+  pub stopped : {x : Refused Refusal} → r ≡ Err x → lowered T ≡ refused (refusal_number x.refusal) x.line
+  stopped {x} e = let g = rw e at k in g.shown
 
 -- ---------------------------------------------------------------- where all fits, positions are lengths
 
-pub record Exact (T : Tables) (v : Value) (c : monad.Counters) (o : Out) (m : Sections) : Type 0 where
-  pub storages : m.storages ≡ length (storages_text o)
-  pub narrowed : m.narrowed ≡ m.storages + length (narrowed_text T o)
-  pub code : m.code ≡ m.narrowed + length (code_text o)
-  pub end : m.end ≡ m.code + length (end_text v c o)
-
--- the listing is its sections
-listing_is : (T : Tables) (v : Value) (c : monad.Counters) (o : Out) → print_of T v c o ≡ storages_text o ++ (narrowed_text T o ++ (code_text o ++ end_text v c o))
+-- the listing is its halves
+listing_is : (T : Tables) (v : Value) (c : monad.Counters) (o : Out) → print_of T v c o ≡ front_text T o ++ back_text v c o
 unfolding print_listing listing_of
 listing_is T v c o = simp append_assoc
 
-sat_exact : (p q r : ℕ) → q ≡ sat (p + r) → q < last → (q ≡ p + r) × (p ≤ q)
-unfolding sat
-sat_exact p q r e h = (omega arith, omega arith)
-
-sat_exact_first : (q r : ℕ) → q ≡ sat r → q < last → q ≡ r
-unfolding sat
-sat_exact_first q r e h = omega arith
-
-module _ {T : Tables} {marks : List ℕ} {m : Sections} (S : Sectioned T marks m) where
-  pub exact : m.end < last → Exact T S.value S.counters S.out m
-  exact h =
-      let p = S.spans in
-      let a = sat_exact m.code m.end (length (end_text S.value S.counters S.out)) p.end h in
-      let b = sat_exact m.narrowed m.code (length (code_text S.out)) p.code (omega arith) in
-      let d = sat_exact m.storages m.narrowed (length (narrowed_text T S.out)) p.narrowed (omega arith) in
-      record { storages = sat_exact_first m.storages _ p.storages (omega arith); narrowed = d.0; code = b.0; end = a.0 }
-
+module _ {T : Tables} {m : Sections} (S : Sectioned T m) where
   -- a listing that is longer is not measured shorter
   pub too_long : (room : ℕ) → room < m.end → room < length (print_of T S.value S.counters S.out)
   unfolding sat
   too_long room h =
-      let p = S.spans in
-      let A = storages_text S.out in
-      let N = narrowed_text T S.out in
-      let C = code_text S.out in
-      let E = end_text S.value S.counters S.out in
-      let e : length (print_of T S.value S.counters S.out) ≡ length A + (length N + (length C + length E)) =
-      ap length (listing_is T S.value S.counters S.out) ∙ length-append A (N ++ (C ++ E)) ∙ rw (length-append N (C ++ E), length-append C E) in
-      omega (arith, p.storages, p.narrowed, p.code, p.end)
+      let F = front_text T S.out in
+      let B = back_text S.value S.counters S.out in
+      let e : length (print_of T S.value S.counters S.out) ≡ length F + length B = ap length (listing_is T S.value S.counters S.out) ∙ length-append F B in
+      omega (arith, S.front, S.end)
 
-  pub listing_length : m.end < last → m.end ≡ length (print_of T S.value S.counters S.out)
-  listing_length h =
-      let x = exact h in
-      let A = storages_text S.out in
-      let N = narrowed_text T S.out in
-      let C = code_text S.out in
-      let E = end_text S.value S.counters S.out in
-      let e : length (print_of T S.value S.counters S.out) ≡ length A + (length N + (length C + length E)) =
-      ap length (listing_is T S.value S.counters S.out) ∙ length-append A (N ++ (C ++ E)) ∙ rw (length-append N (C ++ E), length-append C E) in
-      omega (arith, x.storages, x.narrowed, x.code, x.end)
+  module _ (h : m.end < last) where
+    pub front_exact : m.front ≡ length (front_text T S.out)
+    unfolding sat
+    front_exact = omega (arith, S.front, S.end)
 
-  -- the same of every outcome that the lowering has
-  pub outcome_same : (v : Value) (c : monad.Counters) (o : Out) → lowered T ≡ done v c o → print_of T S.value S.counters S.out ≡ print_of T v c o
-  outcome_same v c o e =
-      let f = S.is in
-      let a : S.value ≡ v = cc in
-      let b : S.counters ≡ c = cc in
-      let d : S.out ≡ o = cc in
-      rw (a, b, d)
+    pub end_exact : m.end ≡ m.front + length (back_text S.value S.counters S.out)
+    unfolding sat
+    end_exact = omega (arith, S.front, S.end)
 
--- ---------------------------------------------------------------- writing: one section after another
+    pub half_first : m.front ≤ m.end
+    half_first = omega (arith, end_exact)
 
--- the four sections
-pub sections_put : {T : Tables} {v : Value} {c : monad.Counters} {o : Out} {m : Sections} (l l1 l2 l3 l4 : List ℕ) → Exact T v c o m
-    → l1 ≡ sets l 0 (storages_text o) → l2 ≡ sets l1 m.storages (narrowed_text T o) → l3 ≡ sets l2 m.narrowed (code_text o) → l4 ≡ sets l3 m.code (end_text v c o)
-    → l4 ≡ sets l 0 (print_of T v c o)
-sections_put {T} {v} {c} {o} {m} l l1 l2 l3 l4 x a b d e =
-    let A = storages_text o in
-    let N = narrowed_text T o in
-    let C = code_text o in
-    let E = end_text v c o in
-    let i : 0 + length A ≡ m.storages = omega (arith, x.storages) in
-    let s3 : sets l3 m.code E ≡ sets l2 m.narrowed (C ++ E) = rw d (rw x.code (sym (sets_append l2 m.narrowed C E))) in
-    let s2 : sets l2 m.narrowed (C ++ E) ≡ sets l1 m.storages (N ++ (C ++ E)) = rw b (rw x.narrowed (sym (sets_append l1 m.storages N (C ++ E)))) in
-    let s1 : sets l1 m.storages (N ++ (C ++ E)) ≡ sets l 0 (A ++ (N ++ (C ++ E))) = rw a (rw (← i) (sym (sets_append l 0 A (N ++ (C ++ E))))) in
-    e ∙ s3 ∙ s2 ∙ s1 ∙ ap (λ (z : List ℕ). sets l 0 z) (sym (listing_is T v c o))
+    pub listing_length : m.end ≡ length (print_of T S.value S.counters S.out)
+    listing_length =
+        let F = front_text T S.out in
+        let B = back_text S.value S.counters S.out in
+        let e : length (print_of T S.value S.counters S.out) ≡ length F + length B = ap length (listing_is T S.value S.counters S.out) ∙ length-append F B in
+        omega (arith, front_exact, end_exact)
 
-module _ {T : Tables} {marks : List ℕ} {m : Sections} (S : Sectioned T marks m) {n : Counts} {l2 l3 stack : List ℕ} {r : Lowered} (k : CodePut T n m.narrowed m.code l2 l3 stack r) where
-  pub end_ready : {x : Val} {s : State} → r ≡ Lowered.Done x s → Printable n stack x s × (end_printed n stack x s ≡ end_text S.value S.counters S.out)
-  end_ready e = subst (λ (z : Lowered). CaseEnd n S.value S.counters S.out stack z) e (k.last S.value S.counters S.out S.is)
+    -- one half behind the other is the listing
+    pub halves_put : (l : List ℕ) {l' : List ℕ} → l' ≡ sets (sets l 0 (front_text T S.out)) m.front (back_text S.value S.counters S.out) → ListingPut T l l'
+    halves_put l {l'} p =
+        let F = front_text T S.out in
+        let B = back_text S.value S.counters S.out in
+        let i : m.front ≡ 0 + length F = omega (arith, front_exact) in
+        let w : l' ≡ sets l 0 (print_of T S.value S.counters S.out) =
+        p ∙ ap (λ (k : ℕ). sets (sets l 0 F) k B) i ∙ sym (sets_append l 0 F B) ∙ ap (λ (z : List ℕ). sets l 0 z) (sym (listing_is T S.value S.counters S.out)) in
+        record { text = λ v c o j. let q = done_same T S.is j in rw (← q.0, ← q.1, ← q.2) w }
 
-  pub not_refused : {i j : ℕ} → r ≡ Lowered.Refused i j → ⊥
-  not_refused e = subst (λ (z : Lowered). CaseEnd n S.value S.counters S.out stack z) e (k.last S.value S.counters S.out S.is)
+    -- each half, in a slice that is as long as it is or longer
+    module _ {store code : List ℕ} (H : Halves T store code) where
+      pub front_taken : m.front ≤ length store → take m.front store ≡ front_text T S.out
+      front_taken g = ap (λ (k : ℕ). take k store) front_exact ∙ H.front S.value S.counters S.out S.is (omega (arith, front_exact))
 
-  pub listing_put : {l l1 l4 : List ℕ} {p q : ℕ} {x : Val} {s : State} → m.end < last → length T.storages ≡ n.storages
-      → StoragesPut T m.storages l l1 → Put l1 m.storages (narrowed_lines (marks_from n.storages 0 marks)) l2 p
-      → r ≡ Lowered.Done x s → Put l3 m.code (end_printed n stack x s) l4 q → ListingPut T l l4
-  listing_put {l} {l1} {l4} {x = x} {s} h f a b e d =
-      let v = S.value in
-      let c = S.counters in
-      let o = S.out in
-      let y = exact S h in
-      let g : narrowed_lines (marks_from n.storages 0 marks) ≡ narrowed_text T o = ap (λ (z : ℕ). narrowed_lines (marks_from z 0 marks)) (sym f) ∙ S.marks in
-      let t1 = a.text v c o S.is y.storages in
-      let t2 = b.text ∙ ap (λ (z : List ℕ). sets l1 m.storages z) g in
-      let t3 = k.text v c o S.is y.code in
-      let t4 = d.text ∙ ap (λ (z : List ℕ). sets l3 m.code z) (end_ready e).1 in
-      let w = sections_put l l1 l2 l3 l4 y t1 t2 t3 t4 in
-      record { text = λ v' c' o' i. w ∙ ap (λ (z : List ℕ). sets l 0 z) (outcome_same S v' c' o' i) }
+      pub back_taken : m.end - m.front ≤ length code → take (m.end - m.front) code ≡ back_text S.value S.counters S.out
+      back_taken g =
+          let e : m.end - m.front ≡ length (back_text S.value S.counters S.out) = omega (arith, end_exact) in
+          ap (λ (k : ℕ). take k code) e ∙ H.back S.value S.counters S.out S.is (omega (arith, e))
 
--- both halves
-module _ {T : Tables} {marks store code : List ℕ} {m : Sections} (H : Held T marks store code m) (h : m.end < last) where
-  -- the first ends before the second
-  pub half_first : m.narrowed ≤ m.end
-  half_first = let y = exact H.sections h in omega (arith, y.code, y.end)
+      pub front_whole : length store ≡ m.front → store ≡ front_text T S.out
+      front_whole g = sym (take_all m.front store (omega arith)) ∙ front_taken (omega arith)
 
-  pub halves_put : (l : List ℕ) {l' : List ℕ} → m.narrowed ≤ length store → m.end - m.narrowed ≤ length code
-      → l' ≡ sets (sets l 0 (take m.narrowed store)) m.narrowed (take (m.end - m.narrowed) code) → ListingPut T l l'
-  halves_put l f g p =
-      let S = H.sections in
-      let v = S.value in
-      let c = S.counters in
-      let o = S.out in
-      let y = exact S h in
-      let A = front_text T o in
-      let E = back_text v c o in
-      let a : m.narrowed ≡ length A = omega (arith, length-append (storages_text o) (narrowed_text T o), y.storages, y.narrowed) in
-      let b : m.end - m.narrowed ≡ length E = omega (arith, length-append (code_text o) (end_text v c o), y.code, y.end) in
-      let s : take m.narrowed store ≡ A = ap (λ (k : ℕ). take k store) a ∙ H.front (omega arith) in
-      let t : take (m.end - m.narrowed) code ≡ E = ap (λ (k : ℕ). take k code) b ∙ H.back (omega arith) in
-      let i : m.narrowed ≡ 0 + length A = omega arith in
-      let w : sets (sets l 0 A) m.narrowed E ≡ sets l 0 (print_of T v c o) =
-      ap (λ (k : ℕ). sets (sets l 0 A) k E) i ∙ sym (sets_append l 0 A E) ∙ ap (λ (z : List ℕ). sets l 0 z) (append_assoc (storages_text o) (narrowed_text T o) E ∙ sym (listing_is T v c o)) in
-      record { text = λ v' c' o' j. p ∙ (rw (s, t) w) ∙ ap (λ (z : List ℕ). sets l 0 z) (outcome_same S v' c' o' j) }
+      pub back_whole : length code ≡ m.end - m.front → code ≡ back_text S.value S.counters S.out
+      back_whole g = sym (take_all (m.end - m.front) code (omega arith)) ∙ back_taken (omega arith)
 
--- ---------------------------------------------------------------- copying
+-- ---------------------------------------------------------------- one part of the buffer behind the other
 
--- one part behind the other, at the start of a slice
+front_is : (l x : List ℕ) (end : ℕ) → end ≤ length l → end ≡ length x → x ++ drop end l ≡ sets l 0 x
+front_is l x end h e = let z : 0 + length x ≡ end = omega arith in ap (λ (k : ℕ). x ++ drop k l) (sym z) ∙ sym (sets-eq x l 0 (omega arith))
+
 module _ (l : List ℕ) (front end : ℕ) (h : front ≤ end) (k : end ≤ length l) where
   pub behind_long : (y : List ℕ) → length y ≡ front → length (take (end - front) (drop front (y ++ drop front l))) ≡ end - front
   behind_long y e = length-take-le (end - front) (drop front (y ++ drop front l)) (omega (arith, length-drop front (y ++ drop front l), length-append y (drop front l), length-drop front l))
@@ -402,11 +289,23 @@ module _ (l : List ℕ) (front end : ℕ) (h : front ≤ end) (k : end ≤ lengt
       ap (λ (u : List ℕ). take front u ++ (z ++ drop (end - front) (drop front u))) f ∙ ap (λ (u : List ℕ). take front (sets l 0 x) ++ (u ++ drop (end - front) (drop front (sets l 0 x)))) q
       ∙ middle_is (sets l 0 x) w front end h (omega arith) (sym j)
 
+-- each half is in the part of the buffer that it fills
+pub halves_written : {T : Tables} {m : Sections} (S : Sectioned T m) → m.end < last → (l : List ℕ) → m.end ≤ length l → {y z store code : List ℕ}
+    → Halves T y code → length y ≡ length (take m.front l) → Halves T store z → length z ≡ length (take (m.end - m.front) (drop m.front (y ++ drop m.front l)))
+    → ListingPut T l (take m.front (y ++ drop m.front l) ++ (z ++ drop (m.end - m.front) (drop m.front (y ++ drop m.front l))))
+halves_written {T} {m} S h l k {y} {z} H e K f =
+    let g = half_first S h in
+    let i : length y ≡ m.front = e ∙ length-take-le m.front l (omega arith) in
+    let j : length z ≡ m.end - m.front = f ∙ behind_long l m.front m.end g k y i in
+    halves_put S h l
+    (halves_is l m.front m.end g k (front_text T S.out) (back_text S.value S.counters S.out) (sym (front_exact S h)) (omega (arith, end_exact S h)) (front_whole S h H i) (back_whole S h K j))
+
 -- ---------------------------------------------------------------- the answer
 
-pub answer_refused : (T : Tables) (room : ℕ) (l : List ℕ) (n k : ℕ) → lowered T ≡ refused n k → Answers (of_lowering T room (lowered T)) l l (Answer.Refused n k)
+pub answer_refused : (T : Tables) (room : ℕ) (l : List ℕ) (r : Result ℕ (Refused Refusal)) (x : Refused Refusal) → IsErrAnd r (λ y. y ≡ x) → lowered T ≡ refused (refusal_number x.refusal) x.line
+    → Answers (of_lowering T room (lowered T)) l l r
 unfolding of_lowering left_in
-answer_refused T room l n k e = rw e (record { answer = refl; left = refl; within = tt })
+answer_refused T room l r x h e = let p = err_from_is_err_and r h in rw (p.1, p.2, e) (record { answer = refl; left = refl; within = tt })
 
 fitted_in : (room : ℕ) (x : List ℕ) → length x ≤ room → fitted room x ≡ accepted x
 unfolding fitted
@@ -428,14 +327,18 @@ of_done : (T : Tables) (room : ℕ) (v : Value) (c : monad.Counters) (o : Out) �
 unfolding of_lowering
 of_done T room v c o e = rw e
 
-module _ {T : Tables} {marks : List ℕ} {m : Sections} (S : Sectioned T marks m) where
-  pub answer_too_long : (l : List ℕ) → length l < m.end → Answers (of_lowering T (length l) (lowered T)) l l (Answer.Refused 28 0)
+-- a listing for which there is no room
+abbrev pub no_room : Refused Refusal
+no_room = record { refusal = Refusal.LongListing; line = 0 }
+
+module _ {T : Tables} {m : Sections} (S : Sectioned T m) where
+  pub answer_too_long : (l : List ℕ) → length l < m.end → Answers (of_lowering T (length l) (lowered T)) l l (Err no_room)
   unfolding left_in
   answer_too_long l h =
       let e : of_lowering T (length l) (lowered T) ≡ spec-answer.refused 28 0 = of_done T (length l) S.value S.counters S.out S.is ∙ not_fitted (length l) _ (too_long S (length l) h) in
       rw e (record { answer = refl; left = refl; within = tt })
 
-  pub answer_accepted : (l l' : List ℕ) → m.end ≤ length l → length l < last → ListingPut T l l' → Answers (of_lowering T (length l) (lowered T)) l l' (Answer.Accepted m.end)
+  pub answer_accepted : (l l' : List ℕ) → m.end ≤ length l → length l < last → ListingPut T l l' → Answers (of_lowering T (length l) (lowered T)) l l' (Ok m.end)
   unfolding left_in
   answer_accepted l l' h k p =
       let P = print_of T S.value S.counters S.out in

@@ -2,7 +2,7 @@
 use Prim.Native.Nat.{ℕ, suc}
 use mathlib.Core.Bool.{Bool, true, false, not}
 use mathlib.Core.List.{List, [], ◌∷◌, ◌++◌, append_assoc}
-use mathlib.Core.Option.{Option, none, some}
+use Rattle.std.specs.Prelude.{Option, None, Some}
 use mathlib.Core.Path.{◌≡◌, refl}
 use native.Mathlib.Omega.{arith}
 use borrow.Author.Tests.{eq-eqb}
@@ -26,36 +26,36 @@ unfolding read_lines at_end
 ended [] R T e = by (left_over R) refl (eqb (length R.tables.nodes) 0) refl
   where
     by : (o : Option ℕ) → left_over R ≡ o → (b : Bool) → eqb (length R.tables.nodes) 0 ≡ b → R.tables ≡ T
-    by (some n) q b p = let x = rw q at e in cc
-    by none q true p = let x = rw (q, p) at e in cc
-    by none q false p = let x : accepted R.tables ≡ accepted T = rw (q, p) at e in cc
+    by (Some n) q b p = let x = rw q at e in cc
+    by None q true p = let x = rw (q, p) at e in cc
+    by None q false p = let x : accepted R.tables ≡ accepted T = rw (q, p) at e in cc
 ended (x ∷ xs) R T e = cc
 
 -- a line that can be read was accepted, so the others are read on from the state behind it
-passed : (l m : List ℕ) (ls : List (List ℕ)) (k : Line) (R : Reading) (T : Tables) → line_of l ≡ some k
+passed : (l m : List ℕ) (ls : List (List ℕ)) (k : Line) (R : Reading) (T : Tables) → line_of l ≡ Some k
     → read_lines (l ∷ m ∷ ls) R ≡ accepted T → read_lines (m ∷ ls) (add R k) ≡ accepted T
 unfolding read_lines step
 passed l m ls k R T q e = by (refusal_of R k) refl
   where
     by : (o : Option ℕ) → refusal_of R k ≡ o → read_lines (m ∷ ls) (add R k) ≡ accepted T
-    by (some n) p = let s : step R (line_of l) ≡ stop n = rw (q, p) in let x = rw (s, read_lines) at e in cc
-    by none p = let s : step R (line_of l) ≡ go (add R k) = rw (q, p) in rw (s, read_lines) at e
+    by (Some n) p = let s : step R (line_of l) ≡ stop n = rw (q, p) in let x = rw (s, read_lines) at e in cc
+    by None p = let s : step R (line_of l) ≡ go (add R k) = rw (q, p) in rw (s, read_lines) at e
 
 record Line_of (l : List ℕ) : Type 0 where
   line : Line
-  is : line_of l ≡ some line
+  is : line_of l ≡ Some line
 
 read_as : (l m : List ℕ) (ls : List (List ℕ)) (R : Reading) (T : Tables) → read_lines (l ∷ m ∷ ls) R ≡ accepted T → Line_of l
 unfolding read_lines step
 read_as l m ls R T e = by (line_of l) refl
   where
     by : (o : Option Line) → line_of l ≡ o → Line_of l
-    by none q =
+    by None q =
         let s : step R (line_of l) ≡ stop 2 = rw q in
         let x = rw (s, read_lines) at e in
         let z : ◌≡◌ {A = ℕ} 0 1 = cc in
         absurd (omega arith)
-    by (some k) q = record { line = k; is = q }
+    by (Some k) q = record { line = k; is = q }
 
 -- ---------------------------------------------------------------- what was added so far
 
@@ -69,7 +69,7 @@ unfolding none_of
 late_rest nothing_added = nothing_added
 late_rest {h} {l} {ls} (none_left n) = none_left (and_right (not (of_kind h (line_of l))) (none_of h ls) n)
 
-late_line : {h : Head} {l : List ℕ} {ls : List (List ℕ)} {ps : List PlacedLine} (k : Line) → line_of l ≡ some k → Late h (l ∷ ls) ps → k.head ≡ h → ps ≡ []
+late_line : {h : Head} {l : List ℕ} {ls : List (List ℕ)} {ps : List PlacedLine} (k : Line) → line_of l ≡ Some k → Late h (l ∷ ls) ps → k.head ≡ h → ps ≡ []
 unfolding none_of
 late_line k q nothing_added e = refl
 late_line {h} {l} {ls} k q (none_left n) e =

@@ -2,7 +2,7 @@
 use Prim.Native.Nat.{ℕ}
 use mathlib.Core.Bool.{Bool, true, false}
 use mathlib.Core.List.{List, [], ◌∷◌}
-use mathlib.Core.Option.{Option, none, some}
+use Rattle.std.specs.Prelude.{Option, None, Some}
 use mathlib.Core.Path.{◌≡◌, refl}
 use Rattle.spec.specs.Hir.{At}
 use Rattle.spec.specs.Lir.{StorageKind, Purpose, InstructionKind}
@@ -54,10 +54,10 @@ pub owned : {A : Type 0} {m m' : Lower A} (h h' : At) → h.node ≡ h'.node →
 owned h h' e d = record { keeps = λ _ _ c _. d.keeps h h' c e }
 
 -- an option that is kept where there is one
-pub found : {A : Type 0} (n : ℕ) (x x' : Option A) → ((a : A) → x ≡ some a → x' ≡ some a) → Follows (or_refuse n x) (or_refuse n x')
+pub found : {A : Type 0} (n : ℕ) (x x' : Option A) → ((a : A) → x ≡ Some a → x' ≡ Some a) → Follows (or_refuse n x) (or_refuse n x')
 unfolding or_refuse
-found n none x' k = refuses
-found n (some a) x' k = rw (k a refl) answers
+found n None x' k = refuses
+found n (Some a) x' k = rw (k a refl) answers
 
 pub known : {A : Type 0} (n : ℕ) (x : Option A) → Follows (or_refuse n x) (or_refuse n x)
 known n x = found n x x (λ a e. e)

@@ -1,7 +1,7 @@
 -- Places over tables with more variables and statics: where one resolves over fewer, it resolves the same over more.
 use Prim.Native.Nat.{ℕ, zero, suc}
 use mathlib.Core.List.{List, [], ◌∷◌, ◌++◌}
-use mathlib.Core.Option.{some}
+use Rattle.std.specs.Prelude.{Some}
 use mathlib.Core.Path.{◌≡◌}
 use Rattle.spec.specs.Hir.{Expr, Place, variable, static, field, element, byte_offset}
 use Rattle.spec.specs.Ticket.{TypeWord, PlacedLine, Tables}
@@ -13,7 +13,7 @@ use Rattle.spec.proofs.AlikeLogic.{Follows, ◌then◌, ◌next◌, answers, fou
 use Rattle.spec.proofs.AlikeReads.{More, extended}
 
 -- what a list has, a longer one has at the same number
-pub nth_more : {A : Type 0} (xs ys : List A) (n : ℕ) (a : A) → nth xs n ≡ some a → nth (xs ++ ys) n ≡ some a
+pub nth_more : {A : Type 0} (xs ys : List A) (n : ℕ) (a : A) → nth xs n ≡ Some a → nth (xs ++ ys) n ≡ Some a
 unfolding nth
 nth_more [] ys n a e = cc
 nth_more (x ∷ xs) ys zero a e = e

@@ -2,7 +2,7 @@
 use Prim.Native.Nat.{ℕ}
 use mathlib.Core.Bool.{Bool, true, false}
 use mathlib.Core.List.{List}
-use mathlib.Core.Option.{Option, none, some}
+use Rattle.std.specs.Prelude.{Option, None, Some}
 use mathlib.Core.Path.{◌≡◌, refl}
 use lib.Dec.{eqb}
 use Rattle.spec.specs.Hir.{IntegerUnaryOp, IntegerBinaryOp, CompareOp, ConversionOp}
@@ -88,8 +88,8 @@ module _ (T : Tables) (m : More) where
 
   as_bit_by : (v : Value) (b : Option BitOperand) → repr_bit (value_repr v) ≡ b → Follows (value_as_bit T v) (value_as_bit (extended T m) v)
   unfolding value_as_bit
-  as_bit_by v none e = rw e (not_zero_alike _ v then λ d. answers)
-  as_bit_by v (some b) e = rw e answers
+  as_bit_by v None e = rw e (not_zero_alike _ v then λ d. answers)
+  as_bit_by v (Some b) e = rw e answers
 
   pub value_as_bit_alike : (v : Value) → Follows (value_as_bit T v) (value_as_bit (extended T m) v)
   value_as_bit_alike v = as_bit_by v (repr_bit (value_repr v)) refl

@@ -1,7 +1,7 @@
 -- DEMAND 3: the listing of an accepted answer costs no more than its ticket shows.
 use Prim.Native.Nat.{ℕ, ◌+◌, ◌*◌}
 use mathlib.Core.List.{List, [], ◌∷◌}
-use mathlib.Core.Option.{some}
+use Rattle.std.specs.Prelude.{Some}
 use mathlib.Core.Path.{◌≡◌, refl, ap, ◌∙◌}
 use native.Mathlib.Omega.{arith}
 use lib.ListN.{length}
@@ -62,7 +62,7 @@ stored_sum T R = line_sum_same (size_of T) (λ ty. type_size_in type_depth_limit
 
 -- THE THEOREM
 pub cost_bound : ((s : List ℕ) (T : Tables) → read_ticket s ≡ reading.accepted T → Readable T)
-    → ((l : Listing) → read_listing (print_listing l) ≡ some l)
+    → ((l : Listing) → read_listing (print_listing l) ≡ Some l)
     → CostBound
 unfolding listing_of lowered
 cost_bound readable round_trip ticket buffer s T read accepts =

@@ -1,7 +1,8 @@
 -- THE LOCAL LEMMA: what a node's own step appends, by the size of its TYPE.
 use Prim.Native.Nat.{ℕ, zero, suc, ◌+◌, ◌≤◌}
 use mathlib.Core.List.{List, [], ◌∷◌}
-use mathlib.Core.Option.{Option, none, some, none-ne-some, some-injective}
+use Rattle.std.specs.Prelude.{Option, None, Some}
+use Rattle.std.proofs.lemmas.Option.{none-some, same_Some}
 use mathlib.Core.Path.{◌≡◌, refl, sym, ap}
 use native.Mathlib.Omega.{arith}
 use native.Mathlib.Nat.{le_refl, le_of_eq}
@@ -26,29 +27,29 @@ use Rattle.spec.proofs.CostSelect.{lower_select_does, lower_address_of_does, low
 -- ---------------------------------------------------------------- parts of aggregates
 
 -- a part has no more values than the whole; a part put in adds its own at most
-parts_records : (r : Repr) (vs : Values) → repr_parts r ≡ some vs → records_of vs ≤ records_in r
+parts_records : (r : Repr) (vs : Values) → repr_parts r ≡ Some vs → records_of vs ≤ records_in r
 unfolding records
-parts_records unit vs e = absurd (none-ne-some vs e)
-parts_records (bit_value b) vs e = absurd (none-ne-some vs e)
-parts_records (bytes_value bs) vs e = absurd (none-ne-some vs e)
-parts_records (aggregate us) vs e = le_of_eq (ap records_of (sym (some-injective us vs e)))
+parts_records unit vs e = absurd (none-some vs e)
+parts_records (bit_value b) vs e = absurd (none-some vs e)
+parts_records (bytes_value bs) vs e = absurd (none-some vs e)
+parts_records (aggregate us) vs e = le_of_eq (ap records_of (sym (same_Some us vs e)))
 
-nth_records : (vs : Values) (i : ℕ) (v : Value) → nth_value vs i ≡ some v → records v ≤ records_of vs
+nth_records : (vs : Values) (i : ℕ) (v : Value) → nth_value vs i ≡ Some v → records v ≤ records_of vs
 unfolding nth_value records
-nth_records no_values i v e = absurd (none-ne-some v e)
-nth_records (u ∷ᵛ vs) zero v e = let h = ap records (some-injective u v e) in omega arith
+nth_records no_values i v e = absurd (none-some v e)
+nth_records (u ∷ᵛ vs) zero v e = let h = ap records (same_Some u v e) in omega arith
 nth_records (u ∷ᵛ vs) (suc i) v e = let h = nth_records vs i v e in omega arith
 
-set_records : (vs : Values) (i : ℕ) (w : Value) (us : Values) → set_value vs i w ≡ some us → records_of us ≤ records_of vs + records w
+set_records : (vs : Values) (i : ℕ) (w : Value) (us : Values) → set_value vs i w ≡ Some us → records_of us ≤ records_of vs + records w
 unfolding set_value records
-set_records no_values i w us e = absurd (none-ne-some us e)
-set_records (v ∷ᵛ vs) zero w us e = let h = ap records_of (some-injective (w ∷ᵛ vs) us e) in omega arith
+set_records no_values i w us e = absurd (none-some us e)
+set_records (v ∷ᵛ vs) zero w us e = let h = ap records_of (same_Some (w ∷ᵛ vs) us e) in omega arith
 set_records (v ∷ᵛ vs) (suc i) w us e = behind (set_value vs i w) (set_records vs i w) e
   where
-    behind : (x : Option Values) → ((ws : Values) → x ≡ some ws → records_of ws ≤ records_of vs + records w)
-        → elim x as (λ _. Option Values) [ none ↦ none | some ws ↦ some (v ∷ᵛ ws) ] ≡ some us → records_of us ≤ records_of (v ∷ᵛ vs) + records w
-    behind none f g = absurd (none-ne-some us g)
-    behind (some ws) f g = let h = f ws refl in let k = ap records_of (some-injective (v ∷ᵛ ws) us g) in omega arith
+    behind : (x : Option Values) → ((ws : Values) → x ≡ Some ws → records_of ws ≤ records_of vs + records w)
+        → elim x as (λ _. Option Values) [ None ↦ None | Some ws ↦ Some (v ∷ᵛ ws) ] ≡ Some us → records_of us ≤ records_of (v ∷ᵛ vs) + records w
+    behind None f g = absurd (none-some us g)
+    behind (Some ws) f g = let h = f ws refl in let k = ap records_of (same_Some (v ∷ᵛ ws) us g) in omega arith
 
 module _ (T : Tables) {L : List Storage} {P : Type 0} where
   integer_does : (v ty : ℕ) → Does L P (lower_integer T v ty) free (Small 1)

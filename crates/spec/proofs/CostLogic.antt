@@ -3,7 +3,7 @@
 use Prim.Native.Nat.{ℕ, suc, ◌+◌, ◌≤◌}
 use mathlib.Core.Bool.{true}
 use mathlib.Core.List.{List, [], ◌∷◌, ◌++◌}
-use mathlib.Core.Option.{some}
+use Rattle.std.specs.Prelude.{Some}
 use mathlib.Core.Path.{◌≡◌}
 use native.Mathlib.Omega.{arith}
 use lib.Dec.{eqb}
@@ -57,7 +57,7 @@ pub record Advanced (c d : Counters) (o : Out) : Type 0 where
 
 -- the storage that L has under the number s
 pub record Kind (L : List Storage) (s : ℕ) (k : StorageKind) : Type 0 where
-  pub found : kind_of s L ≡ some k
+  pub found : kind_of s L ≡ Some k
 
 -- L has these storages under their numbers
 abbrev pub Here : List Storage → List Storage → Type 0

@@ -2,7 +2,8 @@
 use Prim.Native.Nat.{ℕ, ◌+◌, ◌*◌, ◌≤◌}
 use mathlib.Core.Bool.{Bool, true, false}
 use mathlib.Core.List.{List, [], ◌∷◌, map}
-use mathlib.Core.Option.{some, none-ne-some, some-injective}
+use Rattle.std.specs.Prelude.{Some}
+use Rattle.std.proofs.lemmas.Option.{none-some, same_Some}
 use mathlib.Core.Path.{◌≡◌, refl, sym, ap, ◌∙◌}
 use native.Mathlib.Omega.{arith}
 use native.Mathlib.Nat.{le_trans, le_of_eq}
@@ -37,14 +38,14 @@ data Piece (L : List Storage) : ValueStorage → Type 0 where
 
 module _ {L : List Storage} (c : BitOperand) where
   -- a piece is written where it stands
-  piece_inside : (d : ValueStorage) (t f : ValueOperand) (i : InstructionKind) → Piece L d → select_piece c d t f ≡ some i → Inside L i
+  piece_inside : (d : ValueStorage) (t f : ValueOperand) (i : InstructionKind) → Piece L d → select_piece c d t f ≡ Some i → Inside L i
   unfolding select_piece writes
-  piece_inside (bit_storage d) (bit_operand t) (bit_operand f) i (bit_piece k) e = rw (← some-injective _ i e) (writes_bit refl k)
-  piece_inside (bit_storage d) (bit_operand t) (byte_operand f) i p e = absurd (none-ne-some i e)
-  piece_inside (bit_storage d) (byte_operand t) f i p e = absurd (none-ne-some i e)
-  piece_inside (byte_storage d) (byte_operand t) (byte_operand f) i (byte_piece b) e = rw (← some-injective _ i e) (writes_byte refl b)
-  piece_inside (byte_storage d) (byte_operand t) (bit_operand f) i p e = absurd (none-ne-some i e)
-  piece_inside (byte_storage d) (bit_operand t) f i p e = absurd (none-ne-some i e)
+  piece_inside (bit_storage d) (bit_operand t) (bit_operand f) i (bit_piece k) e = rw (← same_Some _ i e) (writes_bit refl k)
+  piece_inside (bit_storage d) (bit_operand t) (byte_operand f) i p e = absurd (none-some i e)
+  piece_inside (bit_storage d) (byte_operand t) f i p e = absurd (none-some i e)
+  piece_inside (byte_storage d) (byte_operand t) (byte_operand f) i (byte_piece b) e = rw (← same_Some _ i e) (writes_byte refl b)
+  piece_inside (byte_storage d) (byte_operand t) (bit_operand f) i p e = absurd (none-some i e)
+  piece_inside (byte_storage d) (bit_operand t) f i p e = absurd (none-some i e)
 
   -- no more pieces than destinations
   pieces_does : (ds : List ValueStorage) {P : Type 0} (ts fs : List ValueOperand) → (P → Each (Piece L) ds)

@@ -2,7 +2,7 @@
 use Prim.Native.Nat.{ℕ, zero, suc, ◌+◌, ◌/◌, ◌%◌, ◌≤◌, ◌<◌, min}
 use mathlib.Core.Bool.{Bool, true, false, ◌&&◌, cond}
 use mathlib.Core.List.{List, [], ◌∷◌}
-use mathlib.Core.Option.{Option, none, some}
+use Rattle.std.specs.Prelude.{Option, None, Some}
 use mathlib.Core.Path.{◌≡◌, refl}
 use native.Mathlib.Omega.{arith}
 use lib.Dec.{eqb, leb, T, leb→le}
@@ -28,8 +28,8 @@ use Rattle.spec.proofs.CostReads.{size_of, bools, bools_of}
 
 -- two more instructions, where a byte may be turned
 abbrev pub turning : Option ℕ → ℕ
-turning none = 0
-turning (some w) = cond (eqb w 8) 2 0
+turning None = 0
+turning (Some w) = cond (eqb w 8) 2 0
 
 -- a width of 8 has one byte and no odd bit, so that two instructions are left over
 bits_spare : (b : Bool) (n : ℕ) → eqb n 8 ≡ b → cond b 2 0 + min 1 (n % 8) ≤ (n + 7) / 8 + 1
@@ -85,7 +85,7 @@ module _ {L : List Storage} {d : ByteStorage} (p : Byte L d) where
 
 -- instructions for a shift of ds at width w
 pub record Turned (L : List Storage) (ds : List ByteStorage) (w : ℕ) (ks : List InstructionKind) : Type 0 where
-  pub count : length ks ≤ length ds + 1 + turning (some w)
+  pub count : length ks ≤ length ds + 1 + turning (Some w)
   pub each : Each (Inside L) ks
 
 module _ {L : List Storage} (w : ℕ) (ds : List ByteStorage) (l r : List ByteOperand) (g : Each (Byte L) ds) where

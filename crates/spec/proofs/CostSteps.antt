@@ -2,7 +2,7 @@
 use Prim.Native.Nat.{ℕ, ◌+◌, ◌*◌, ◌≤◌, zero-le}
 use mathlib.Core.Bool.{Bool, true, false}
 use mathlib.Core.List.{List, [], ◌∷◌}
-use mathlib.Core.Option.{Option, none, some}
+use Rattle.std.specs.Prelude.{Option, None, Some}
 use mathlib.Core.Path.{◌≡◌, refl}
 use native.Mathlib.Omega.{arith}
 use native.Mathlib.Nat.{le_refl}
@@ -52,10 +52,10 @@ module _ {A : Type 0} {L : List Storage} {P : Type 0} where
   pub owned : {m : Lower A} {k : Cost} {Q : A → Type 0} (h : At) → Does L P m k Q → Does L P (own h m) k Q
   owned h d = record { run = λ _ c. d.run h c }
 
-  pub known : (n : ℕ) (x : Option A) → Does L P (or_refuse n x) free (λ a. x ≡ some a)
+  pub known : (n : ℕ) (x : Option A) → Does L P (or_refuse n x) free (λ a. x ≡ Some a)
   unfolding or_refuse
-  known n none = refuses
-  known n (some a) = answers (λ _. refl)
+  known n None = refuses
+  known n (Some a) = answers (λ _. refl)
 
 module _ {L : List Storage} {P : Type 0} where
   pub required : (n : ℕ) (b : Bool) → Does L P (require n b) free (λ _. b ≡ true)

@@ -2,7 +2,7 @@
 use Prim.Native.Nat.{ℕ, zero, suc, ◌+◌, ◌≤◌, ◌<◌, zero-le, min}
 use mathlib.Core.Bool.{Bool, true, false, cond}
 use mathlib.Core.List.{List, [], ◌∷◌}
-use mathlib.Core.Option.{Option, none, some}
+use Rattle.std.specs.Prelude.{Option, None, Some}
 use mathlib.Core.Path.{◌≡◌, refl}
 use native.Mathlib.Omega.{arith}
 use lib.Dec.{eqb}
@@ -50,11 +50,11 @@ writes_bytes e p = record { all = rw e (all_written p) }
 
 -- a sum's byte, and its carry out where there is one
 pub carried : {L : List Storage} {d : ByteStorage} {c : ℕ} (k : Option ℕ → InstructionKind) (n i : ℕ)
-    → writes (k none) ≡ to_byte d ∷ [] → writes (k (some c)) ≡ to_byte d ∷ to_carry c ∷ []
+    → writes (k None) ≡ to_byte d ∷ [] → writes (k (Some c)) ≡ to_byte d ∷ to_carry c ∷ []
     → Byte L d → Kind L c lir.carry → Inside L (k (carry_out c n i))
 carried {L} {d} {c} k n i e f p q = by (eqb (suc i) n)
   where
-    by : (b : Bool) → Inside L (k (cond b none (some c)))
+    by : (b : Bool) → Inside L (k (cond b None (Some c)))
     by true = writes_byte e p
     by false = writes_sum f p q
 

@@ -2,7 +2,7 @@
 use Prim.Native.Nat.{ℕ, zero, suc, ◌+◌, ◌-◌, ◌*◌, ◌/◌, ◌%◌, ◌^◌, ◌≤◌, ◌<◌}
 use mathlib.Core.Bool.{Bool, true, false, not, false≢true}
 use mathlib.Core.List.{List, [], ◌∷◌, ◌++◌}
-use mathlib.Core.Option.{none, some}
+use Rattle.std.specs.Prelude.{None, Some}
 use mathlib.Core.Path.{◌≡◌, refl, sym, ap, ◌∙◌}
 use native.Mathlib.Omega.{arith}
 use lib.Dec.{eqb, ltb}
@@ -131,16 +131,16 @@ unfolding good_start digits digits_in
 digits_start zero = refl
 digits_start (suc n) = leads_good (digits (suc n)) (digits_lead (suc n) (omega arith))
 
-pub numeral_digits : (n : ℕ) → numeral (digits n) ≡ some n
+pub numeral_digits : (n : ℕ) → numeral (digits n) ≡ Some n
 unfolding numeral
-numeral_digits n = rw (digits_start n, digits_digits n, numeral) (ap some (horner_digits n))
+numeral_digits n = rw (digits_start n, digits_digits n, numeral) (ap Some (horner_digits n))
 
-pub keeps : (n : ℕ) → n < 2 ^ 64 → below-2^64 (some n) ≡ some n
+pub keeps : (n : ℕ) → n < 2 ^ 64 → below-2^64 (Some n) ≡ Some n
 keeps n h = rw (lt-ltb n (2 ^ 64) h, below-2^64)
 
-pub drops : (n : ℕ) → 2 ^ 64 ≤ n → below-2^64 (some n) ≡ none
+pub drops : (n : ℕ) → 2 ^ 64 ≤ n → below-2^64 (Some n) ≡ None
 drops n h = rw (le-ltb n (2 ^ 64) h, below-2^64)
 
-pub number_digits : (n : ℕ) → n < 2 ^ 64 → number (digits n) ≡ some n
+pub number_digits : (n : ℕ) → n < 2 ^ 64 → number (digits n) ≡ Some n
 unfolding number
 number_digits n h = rw numeral_digits (keeps n h)

@@ -2,7 +2,8 @@
 use Prim.Native.Nat.{ℕ}
 use mathlib.Core.Bool.{true, ◌&&◌}
 use mathlib.Core.List.{List, [], ◌∷◌, ◌++◌, map}
-use mathlib.Core.Option.{Option, none, some, none-ne-some as none≢some}
+use Rattle.std.specs.Prelude.{Option, None, Some}
+use Rattle.std.proofs.lemmas.Option.{none-some}
 use mathlib.Core.Path.{◌≡◌, refl}
 use lib.ListN.{length}
 use Rattle.spec.specs.Text.{digits, good_start, numeral, split, same, comma, line_feed}
@@ -25,7 +26,7 @@ pub record Fields {A : Type 0} (m : Reader Field A) (fs : List Field) (a : A) : 
 pub nothing : {A : Type 0} (a : A) → Fields (pure a) [] a
 nothing a = record { clean = no_fields; takes = takes_pure a }
 
-pub one : {A : Type 0} (f : Field → Option A) {x : Field} {a : A} → Clean x → f x ≡ some a → Fields (next f) (x ∷ []) a
+pub one : {A : Type 0} (f : Field → Option A) {x : Field} {a : A} → Clean x → f x ≡ Some a → Fields (next f) (x ∷ []) a
 one f c e = record { clean = field c no_fields; takes = takes_next f e }
 
 -- several fields, then others
@@ -44,7 +45,7 @@ last k p = record { clean = p.clean; takes = takes_last k p.takes }
 
 -- nothing to read: the answer is there already
 pub already : {A B : Type 0} (f : A → Reader Field B) {o : Option A} (a : A) {gs : List Field} {b : B}
-    → o ≡ some a → Fields (f a) gs b → Fields (read.chosen o >>= f) gs b
+    → o ≡ Some a → Fields (f a) gs b → Fields (read.chosen o >>= f) gs b
 already f a e q = rw e (thens f (nothing a) q)
 
 -- a word of the list, then its fields
@@ -77,7 +78,7 @@ byte_storage_clean : (s : Lir.ByteStorage) → Clean (print.byte_storage s)
 unfolding print.byte_storage
 byte_storage_clean s = clean_append (digits_clean s.storage) (mark_clean 46 refl refl s.offset)
 
-byte_storage_back : (s : Lir.ByteStorage) → read.byte_storage_of (print.byte_storage s) ≡ some s
+byte_storage_back : (s : Lir.ByteStorage) → read.byte_storage_of (print.byte_storage s) ≡ Some s
 unfolding print.byte_storage read.byte_storage_of
 byte_storage_back s =
     rw (
@@ -88,9 +89,9 @@ byte_storage_back s =
     )
 
 -- `#7` or `3.1`: what begins with no `#` is a storage
-not_immediate : (f : Field) → free 35 f ≡ true → (s : Lir.ByteStorage) → read.byte_storage_of f ≡ some s → read.byte_operand_of f ≡ some (Lir.stored s)
+not_immediate : (f : Field) → free 35 f ≡ true → (s : Lir.ByteStorage) → read.byte_storage_of f ≡ Some s → read.byte_operand_of f ≡ Some (Lir.stored s)
 unfolding read.byte_operand_of read.byte_storage_of split
-not_immediate [] h s e = absurd (none≢some s e)
+not_immediate [] h s e = absurd (none-some s e)
 not_immediate (b ∷ f) h s e = rw (first_free 35 b f h, read.byte_operand_of) (rw e)
 
 byte_operand_clean : (b : Lir.ByteOperand) → Clean (print.byte_operand b)
@@ -102,15 +103,15 @@ byte_storage_free : (s : Lir.ByteStorage) → free 35 (print.byte_storage s) ≡
 unfolding print.byte_storage
 byte_storage_free s = free_append 35 (digits s.storage) (46 ∷ digits s.offset) (digits_free 35 refl s.storage) (digits_free 35 refl s.offset)
 
-byte_operand_back : (b : Lir.ByteOperand) → read.byte_operand_of (print.byte_operand b) ≡ some b
+byte_operand_back : (b : Lir.ByteOperand) → read.byte_operand_of (print.byte_operand b) ≡ Some b
 unfolding print.byte_operand read.byte_operand_of
 byte_operand_back (Lir.immediate n) = rw numeral_digits
 byte_operand_back (Lir.stored s) = not_immediate (print.byte_storage s) (byte_storage_free s) s (byte_storage_back s)
 
 -- `#1` or `3`
-not_constant : (f : Field) → free 35 f ≡ true → (n : ℕ) → numeral f ≡ some n → read.bit_operand_of f ≡ some (Lir.stored_bit n)
+not_constant : (f : Field) → free 35 f ≡ true → (n : ℕ) → numeral f ≡ Some n → read.bit_operand_of f ≡ Some (Lir.stored_bit n)
 unfolding read.bit_operand_of numeral good_start
-not_constant [] h n e = absurd (none≢some n e)
+not_constant [] h n e = absurd (none-some n e)
 not_constant (b ∷ f) h n e = rw (first_free 35 b f h, read.bit_operand_of) (rw e)
 
 bit_operand_clean : (b : Lir.BitOperand) → Clean (print.bit_operand b)
@@ -118,26 +119,26 @@ unfolding print.bit_operand
 bit_operand_clean (Lir.constant n) = mark_clean 35 refl refl n
 bit_operand_clean (Lir.stored_bit n) = digits_clean n
 
-bit_operand_back : (b : Lir.BitOperand) → read.bit_operand_of (print.bit_operand b) ≡ some b
+bit_operand_back : (b : Lir.BitOperand) → read.bit_operand_of (print.bit_operand b) ≡ Some b
 unfolding print.bit_operand read.bit_operand_of
 bit_operand_back (Lir.constant n) = rw numeral_digits
 bit_operand_back (Lir.stored_bit n) = not_constant (digits n) (digits_free 35 refl n) n (numeral_digits n)
 
 -- `-` or `3`
-not_missing : (f : Field) → free 45 f ≡ true → (n : ℕ) → numeral f ≡ some n → read.carry_of f ≡ some (some n)
+not_missing : (f : Field) → free 45 f ≡ true → (n : ℕ) → numeral f ≡ Some n → read.carry_of f ≡ Some (Some n)
 unfolding read.carry_of numeral good_start same
-not_missing [] h n e = absurd (none≢some n e)
+not_missing [] h n e = absurd (none-some n e)
 not_missing (b ∷ f) h n e = rw (first_free 45 b f h, read.carry_of) (rw e)
 
 carry_clean : (c : Option ℕ) → Clean (print.carry_operand c)
 unfolding print.carry_operand
-carry_clean none = record { no_comma = refl; no_feed = refl }
-carry_clean (some n) = digits_clean n
+carry_clean None = record { no_comma = refl; no_feed = refl }
+carry_clean (Some n) = digits_clean n
 
-carry_back : (c : Option ℕ) → read.carry_of (print.carry_operand c) ≡ some c
+carry_back : (c : Option ℕ) → read.carry_of (print.carry_operand c) ≡ Some c
 unfolding print.carry_operand read.carry_of same
-carry_back none = refl
-carry_back (some n) = not_missing (digits n) (digits_free 45 refl n) n (numeral_digits n)
+carry_back None = refl
+carry_back (Some n) = not_missing (digits n) (digits_free 45 refl n) n (numeral_digits n)
 
 pub storage_field : (s : Lir.ByteStorage) → Fields read.byte_storage (print.byte_storage s ∷ []) s
 storage_field s = one read.byte_storage_of (byte_storage_clean s) (byte_storage_back s)
@@ -168,6 +169,6 @@ destinations_fields ds = list_fields print.byte_storage storage_field ds
 pub operands_fields : (bs : List Lir.ByteOperand) → Fields (listed read.byte_operand) (print.operands bs) bs
 operands_fields bs = list_fields print.byte_operand operand_field bs
 
-pub operator_field : {A : Type 0} (ops : List (Option A)) (n : ℕ) (a : A) → nth ops n ≡ some a → Fields (one_of ops) (digits n ∷ []) a
+pub operator_field : {A : Type 0} (ops : List (Option A)) (n : ℕ) (a : A) → nth ops n ≡ Some a → Fields (one_of ops) (digits n ∷ []) a
 unfolding one_of
 operator_field ops n a e = then_next _ (number_field n) (rw e (nothing a))

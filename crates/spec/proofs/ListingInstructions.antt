@@ -1,7 +1,7 @@
 -- Instructions: each form's fields are read back.
 use Prim.Native.Nat.{ℕ}
 use mathlib.Core.List.{List, [], ◌∷◌, ◌++◌, append_assoc}
-use mathlib.Core.Option.{Option, some}
+use Rattle.std.specs.Prelude.{Option, Some}
 use mathlib.Core.Path.{◌≡◌, refl}
 use Rattle.spec.specs.Text.{digits, same}
 use Rattle.spec.specs.Lir
@@ -12,7 +12,7 @@ use Rattle.spec.proofs.ListingFields.{Fields, thens, then_next, last, word, numb
 
 -- ---------------------------------------------------------------- operators by their numbers
 
-shift_op : (op : Lir.ShiftOp) → nth read.shift_ops (print.shift_number op) ≡ some op
+shift_op : (op : Lir.ShiftOp) → nth read.shift_ops (print.shift_number op) ≡ Some op
 unfolding nth read.shift_ops print.shift_number
 shift_op Lir.shift_left = refl
 shift_op Lir.shift_right_unsigned = refl
@@ -20,7 +20,7 @@ shift_op Lir.shift_right_signed = refl
 shift_op Lir.rotate_left = refl
 shift_op Lir.rotate_right = refl
 
-compare_op : (op : Lir.CompareOp) → nth read.compare_ops (print.compare_number op) ≡ some op
+compare_op : (op : Lir.CompareOp) → nth read.compare_ops (print.compare_number op) ≡ Some op
 unfolding nth read.compare_ops print.compare_number
 compare_op Lir.equal = refl
 compare_op Lir.not_equal = refl
@@ -33,13 +33,13 @@ compare_op Lir.greater_than_signed = refl
 compare_op Lir.greater_than_or_equal_unsigned = refl
 compare_op Lir.greater_than_or_equal_signed = refl
 
-unary_op : (op : Lir.IntegerUnaryBytesOp) → nth read.unary_ops (print.unary_number op) ≡ some op
+unary_op : (op : Lir.IntegerUnaryBytesOp) → nth read.unary_ops (print.unary_number op) ≡ Some op
 unfolding nth read.unary_ops print.unary_number
 unary_op Lir.count_leading_zeros = refl
 unary_op Lir.count_trailing_zeros = refl
 unary_op Lir.population_count = refl
 
-binary_op : (op : Lir.IntegerBinaryBytesOp) → nth read.binary_ops (print.binary_number op) ≡ some op
+binary_op : (op : Lir.IntegerBinaryBytesOp) → nth read.binary_ops (print.binary_number op) ≡ Some op
 unfolding nth read.binary_ops print.binary_number
 binary_op Lir.multiply = refl
 binary_op Lir.divide_unsigned = refl

@@ -1,7 +1,7 @@
 -- Values: their lines, outer first, and the value read back from them.
 use Prim.Native.Nat.{ℕ, zero, suc, ◌≤◌}
 use mathlib.Core.List.{List, [], ◌∷◌, ◌++◌}
-use mathlib.Core.Option.{some}
+use Rattle.std.specs.Prelude.{Some}
 use mathlib.Core.Path.{◌≡◌, refl}
 use native.Mathlib.Omega.{arith}
 use lib.ListN.{length, length-append}
@@ -44,7 +44,7 @@ top_back : (ty : ℕ) (r : Lir.Repr) → Fields read.top (digits ty ∷ shape_fi
 unfolding read.top
 top_back ty r = then_next _ (number_field ty) (last (λ s. record { ty = ty; shape = s }) (shape_back r))
 
-own_line_back : (ty : ℕ) (r : Lir.Repr) → read.line_of "value" read.top (own_line ty r) ≡ some (record { ty = ty; shape = shape_of r })
+own_line_back : (ty : ℕ) (r : Lir.Repr) → read.line_of "value" read.top (own_line ty r) ≡ Some (record { ty = ty; shape = shape_of r })
 own_line_back ty r = line_back "value" (top_back ty r)
 
 own_line_cut : (ty : ℕ) (r : Lir.Repr) → Lines (print.value_line ty (shape_fields r)) (own_line ty r ∷ [])

@@ -2,7 +2,7 @@
 use Prim.Native.Nat.{ℕ, suc, ◌+◌, ◌≤◌}
 use mathlib.Core.Bool.{Bool, true, false}
 use mathlib.Core.List.{List, [], ◌∷◌}
-use mathlib.Core.Option.{Option, none, some}
+use Rattle.std.specs.Prelude.{Option, None, Some}
 use mathlib.Core.Path.{◌≡◌, refl}
 use native.Mathlib.Omega.{arith}
 use borrow.Author.Tests.{ltb-true, leb-true, lt-ltb, le-leb}
@@ -25,8 +25,8 @@ use Rattle.spec.proofs.Bools.{and_left, and_right, and_true}
 -- a refusal before and after: the same, or 8 or 10 before
 data Raised : Option ℕ → Option ℕ → Type 0 where
   as_before : {x : Option ℕ} → Raised x x
-  was_8 : {x : Option ℕ} → Raised (some 8) x
-  was_10 : {x : Option ℕ} → Raised (some 10) x
+  was_8 : {x : Option ℕ} → Raised (Some 8) x
+  was_10 : {x : Option ℕ} → Raised (Some 10) x
 
 -- the same tests, but that 8 and 10 pass more
 data Looser : List Test → List Test → Type 0 where
@@ -41,7 +41,7 @@ looser no_test = as_before
 looser (same_test {t = t} {ts} {us} k) = by t.passes (looser k)
   where
     by : (b : Bool) → Raised (first_failed ts) (first_failed us)
-        → Raised (elim b [ true ↦ first_failed ts | false ↦ some t.refusal ]) (elim b [ true ↦ first_failed us | false ↦ some t.refusal ])
+        → Raised (elim b [ true ↦ first_failed ts | false ↦ Some t.refusal ]) (elim b [ true ↦ first_failed us | false ↦ Some t.refusal ])
     by true r = r
     by false r = as_before
 looser (looser_8 {b = true} {ts = ts} {us} p k) = rw (p refl, first_failed) (looser k)
@@ -102,16 +102,16 @@ module _ (L : Limits) (H : NoMore L) where
       after : (k : Line) (x y : Option ℕ) → Raised x y → Later (m ∷ ls)
           → RaisedRead (elim (StepBy R k x) [ stop n ↦ reading.refused n (suc R.lines) | go R' ↦ before.read_lines L (m ∷ ls) R' ])
           (elim (StepBy R k y) [ stop n ↦ reading.refused n (suc R.lines) | go R' ↦ reading.read_lines (m ∷ ls) R' ])
-      after k none y as_before later = later (reading.add R k)
-      after k (some n) y as_before later = read_as_before
+      after k None y as_before later = later (reading.add R k)
+      after k (Some n) y as_before later = read_as_before
       after k x y was_8 later = read_was_8
       after k x y was_10 later = read_was_10
 
       by : (o : Option Line) → Later (m ∷ ls)
           → RaisedRead (elim (before.step L R o) [ stop n ↦ reading.refused n (suc R.lines) | go R' ↦ before.read_lines L (m ∷ ls) R' ])
           (elim (reading.step R o) [ stop n ↦ reading.refused n (suc R.lines) | go R' ↦ reading.read_lines (m ∷ ls) R' ])
-      by none later = read_as_before
-      by (some k) later = after k (before.refusal_of L R k) (reading.refusal_of R k) (refusal_raised R k) later
+      by None later = read_as_before
+      by (Some k) later = after k (before.refusal_of L R k) (reading.refusal_of R k) (refusal_raised R k) later
 
   pub reading_raised : (s : List ℕ) → RaisedRead (before.read_ticket L s) (reading.read_ticket s)
   unfolding before.read_ticket reading.read_ticket

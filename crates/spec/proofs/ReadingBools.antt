@@ -2,7 +2,7 @@
 use Prim.Native.Nat.{ℕ, zero, suc, ◌-◌, ◌≤◌}
 use mathlib.Core.Bool.{true}
 use mathlib.Core.List.{List, [], ◌∷◌}
-use mathlib.Core.Option.{none}
+use Rattle.std.specs.Prelude.{None}
 use mathlib.Core.Path.{◌≡◌, refl, subst}
 use native.Mathlib.Omega.{arith}
 use borrow.Author.Tests.{le-leb}
@@ -27,7 +27,7 @@ BoolRight n = n.word ≡ n_bool → arg n.args 0 ≤ 1
 abbrev pub Bools : Tables → Type 0
 Bools T = All BoolRight T.nodes
 
-new_bool : (R : Reading) (w : NodeWord) (xa : List Arg) → NodeFormed w xa → refusal_of R (record { head = n_line w; args = xa }) ≡ none
+new_bool : (R : Reading) (w : NodeWord) (xa : List Arg) → NodeFormed w xa → refusal_of R (record { head = n_line w; args = xa }) ≡ None
     → w ≡ n_bool → arg (behind_type (values xa)) 0 ≤ 1
 unfolding All
 new_bool R w xa (node_formed {xa = ya} ty q) e b =
@@ -35,7 +35,7 @@ new_bool R w xa (node_formed {xa = ya} ty q) e b =
     let s : Within (record { class = between 0 1; value = arg (values ya) 0 } ∷ []) = subst (λ (za : List Arg). Within za) (q.of_bool b) r.1 in
     (in_range 0 1 (arg (values ya) 0) s.0).1
 
-pub bools_kept : (R : Reading) (n : ℕ) (h : Head) (xa : List Arg) → Formed h xa → refusal_of R (record { head = h; args = xa }) ≡ none
+pub bools_kept : (R : Reading) (n : ℕ) (h : Head) (xa : List Arg) → Formed h xa → refusal_of R (record { head = h; args = xa }) ≡ None
     → Bools R.tables → Bools (add_line R.tables n h xa)
 unfolding add_line
 bools_kept R n f_line xa f e c = c

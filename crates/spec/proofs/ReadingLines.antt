@@ -1,7 +1,8 @@
 -- Every line that can be read has the form of its head: checked rule by rule, and carried over from the rules to the text.
 use Prim.Native.Nat.{ℕ}
 use mathlib.Core.List.{List, [], ◌∷◌}
-use mathlib.Core.Option.{Option, none, some, none-ne-some as none≢some, some-injective as of_some}
+use Rattle.std.specs.Prelude.{Option, None, Some}
+use Rattle.std.proofs.lemmas.Option.{none-some, same_Some}
 use mathlib.Core.Path.{◌≡◌, refl}
 use Rattle.spec.specs.Text.{split, comma}
 use Rattle.spec.specs.Ticket.{TypeWord, t_unit, t_bool, t_bits, t_float, t_pointer, t_array, t_struct, t_tuple, t_opaque, PlaceWord, NodeWord, n_bool, n_int, n_f32, n_f64, n_null, n_static_address, n_function, n_read, n_unary, n_binary, n_funary, n_fbinary, n_compare, n_convert, n_select, n_address, n_offset, n_extract, n_insert, arg}
@@ -15,7 +16,7 @@ use Rattle.spec.proofs.ReadingForms.{Args, done, next, part_values, node_values,
 abbrev Width : TypeWord → List Arg → Type 0
 Width t_unit xa = Unit {0}
 Width t_bool xa = Unit {0}
-Width t_bits xa = Args (between 1 64 ∷ []) none xa
+Width t_bits xa = Args (between 1 64 ∷ []) None xa
 Width t_float xa = Unit {0}
 Width t_pointer xa = Unit {0}
 Width t_array xa = Unit {0}
@@ -38,10 +39,10 @@ pub data NodeFormed (w : NodeWord) : List Arg → Type 0 where
   node_formed : {xa : List Arg} (ty : ℕ) → NumbersFormed w xa → NodeFormed w (record { class = type; value = ty } ∷ xa)
 
 abbrev pub Formed : Head → List Arg → Type 0
-Formed f_line xa = Args function_fields none xa
-Formed s_line xa = Args storage_fields none xa
-Formed v_line xa = Args placed_fields none xa
-Formed g_line xa = Args placed_fields none xa
+Formed f_line xa = Args function_fields None xa
+Formed s_line xa = Args storage_fields None xa
+Formed v_line xa = Args placed_fields None xa
+Formed g_line xa = Args placed_fields None xa
 Formed (t_line w) xa = TypeFormed w xa
 Formed (p_line w) xa = Unit {0}
 Formed (n_line w) xa = NodeFormed w xa
@@ -53,7 +54,7 @@ abbrev Filled : List Field → (List Arg → Type 0) → Type 0
 Filled [] P = P []
 Filled (f ∷ fs) P = (x : ℕ) → Filled fs (λ xa. P (record { class = f; value = x } ∷ xa))
 
-filled : {fs : List Field} {xa : List Arg} (P : List Arg → Type 0) → Filled fs P → Args fs none xa → P xa
+filled : {fs : List Field} {xa : List Arg} (P : List Arg → Type 0) → Filled fs P → Args fs None xa → P xa
 filled P h done = h
 filled P h (next x rest) = filled (λ xa. P (record { class = _; value = x } ∷ xa)) (h x) rest
 
@@ -166,69 +167,69 @@ node_rules_formed = (
 
 -- the head before its numbers, if there are any such
 abbrev behind : Head → Option (List Arg) → Option Line
-behind h none = none
-behind h (some xa) = some (record { head = h; args = xa })
+behind h None = None
+behind h (Some xa) = Some (record { head = h; args = xa })
 
-behind_formed : (h : Head) (o : Option (List Arg)) (l : Line) → behind h o ≡ some l → ((xa : List Arg) → o ≡ some xa → Formed h xa)
+behind_formed : (h : Head) (o : Option (List Arg)) (l : Line) → behind h o ≡ Some l → ((xa : List Arg) → o ≡ Some xa → Formed h xa)
     → Formed l.head l.args
-behind_formed h none l e f = absurd (none≢some _ e)
-behind_formed h (some xa) l e f = rw (← of_some _ _ e) (f xa refl)
+behind_formed h None l e f = absurd (none-some _ e)
+behind_formed h (Some xa) l e f = rw (← same_Some _ _ e) (f xa refl)
 
-type_formed : (ws : List (List ℕ)) (l : Line) → type_form ws ≡ some l → Formed l.head l.args
+type_formed : (ws : List (List ℕ)) (l : Line) → type_form ws ≡ Some l → Formed l.head l.args
 unfolding type_form TypeRule
-type_formed [] l e = absurd (none≢some _ e)
+type_formed [] l e = absurd (none-some _ e)
 type_formed (w ∷ ws) l e = by (find type_rules w) refl
   where
     by : (o : Option (Rule TypeWord)) → find type_rules w ≡ o → Formed l.head l.args
-    by none p = absurd (none≢some _ (rw p at e))
-    by (some r) p =
+    by None p = absurd (none-some _ (rw p at e))
+    by (Some r) p =
         behind_formed (t_line r.make) (args_of r.fields r.rest ws) l (rw p at e)
         (λ xa q. found TypeRule type_rules w r type_rules_formed p xa (args_formed r.fields r.rest ws xa q))
 
-place_formed : (ws : List (List ℕ)) (l : Line) → place_form ws ≡ some l → Formed l.head l.args
+place_formed : (ws : List (List ℕ)) (l : Line) → place_form ws ≡ Some l → Formed l.head l.args
 unfolding place_form
-place_formed [] l e = absurd (none≢some _ e)
+place_formed [] l e = absurd (none-some _ e)
 place_formed (w ∷ ws) l e = by (find place_rules w) refl
   where
     by : (o : Option (Rule PlaceWord)) → find place_rules w ≡ o → Formed l.head l.args
-    by none p = absurd (none≢some _ (rw p at e))
-    by (some r) p = behind_formed (p_line r.make) (args_of r.fields r.rest ws) l (rw p at e) (λ xa q. tt)
+    by None p = absurd (none-some _ (rw p at e))
+    by (Some r) p = behind_formed (p_line r.make) (args_of r.fields r.rest ws) l (rw p at e) (λ xa q. tt)
 
 node_args : (r : Rule NodeWord) (xa : List Arg) → NodeRule r → Args (type ∷ r.fields) r.rest xa → NodeFormed r.make xa
 unfolding NodeRule
 node_args r xa f (next ty rest) = node_formed ty (f _ rest)
 
-node_line_formed : (ws : List (List ℕ)) (l : Line) → node_form ws ≡ some l → Formed l.head l.args
+node_line_formed : (ws : List (List ℕ)) (l : Line) → node_form ws ≡ Some l → Formed l.head l.args
 unfolding node_form
-node_line_formed [] l e = absurd (none≢some _ e)
-node_line_formed (t ∷ []) l e = absurd (none≢some _ e)
+node_line_formed [] l e = absurd (none-some _ e)
+node_line_formed (t ∷ []) l e = absurd (none-some _ e)
 node_line_formed (t ∷ w ∷ ws) l e = by (find node_rules w) refl
   where
     by : (o : Option (Rule NodeWord)) → find node_rules w ≡ o → Formed l.head l.args
-    by none p = absurd (none≢some _ (rw p at e))
-    by (some r) p =
+    by None p = absurd (none-some _ (rw p at e))
+    by (Some r) p =
         behind_formed (n_line r.make) (args_of (type ∷ r.fields) r.rest (t ∷ ws)) l (rw p at e)
         (λ xa q. node_args r xa (found NodeRule node_rules w r node_rules_formed p) (args_formed (type ∷ r.fields) r.rest (t ∷ ws) xa q))
 
-form_formed : (k : Kind) (ws : List (List ℕ)) (l : Line) → form_of k ws ≡ some l → Formed l.head l.args
+form_formed : (k : Kind) (ws : List (List ℕ)) (l : Line) → form_of k ws ≡ Some l → Formed l.head l.args
 unfolding form_of
-form_formed k_f ws l e = behind_formed f_line (args_of function_fields none ws) l e (args_formed function_fields none ws)
+form_formed k_f ws l e = behind_formed f_line (args_of function_fields None ws) l e (args_formed function_fields None ws)
 form_formed k_t ws l e = type_formed ws l e
-form_formed k_s ws l e = behind_formed s_line (args_of storage_fields none ws) l e (args_formed storage_fields none ws)
-form_formed k_v ws l e = behind_formed v_line (args_of placed_fields none ws) l e (args_formed placed_fields none ws)
-form_formed k_g ws l e = behind_formed g_line (args_of placed_fields none ws) l e (args_formed placed_fields none ws)
+form_formed k_s ws l e = behind_formed s_line (args_of storage_fields None ws) l e (args_formed storage_fields None ws)
+form_formed k_v ws l e = behind_formed v_line (args_of placed_fields None ws) l e (args_formed placed_fields None ws)
+form_formed k_g ws l e = behind_formed g_line (args_of placed_fields None ws) l e (args_formed placed_fields None ws)
 form_formed k_p ws l e = place_formed ws l e
 form_formed k_n ws l e = node_line_formed ws l e
 
-pub line_formed : (s : List ℕ) (l : Line) → line_of s ≡ some l → Formed l.head l.args
+pub line_formed : (s : List ℕ) (l : Line) → line_of s ≡ Some l → Formed l.head l.args
 unfolding line_of
 line_formed s l e = by (split comma s) refl
   where
     by_kind : (w : List ℕ) (ws : List (List ℕ)) → split comma s ≡ w ∷ ws → (o : Option (Rule Kind)) → find kind_rules w ≡ o
         → Formed l.head l.args
-    by_kind w ws q none p = absurd (none≢some _ (rw (q, p) at e))
-    by_kind w ws q (some r) p = form_formed r.make ws l (rw (q, p) at e)
+    by_kind w ws q None p = absurd (none-some _ (rw (q, p) at e))
+    by_kind w ws q (Some r) p = form_formed r.make ws l (rw (q, p) at e)
 
     by : (fs : List (List ℕ)) → split comma s ≡ fs → Formed l.head l.args
-    by [] q = absurd (none≢some _ (rw q at e))
+    by [] q = absurd (none-some _ (rw q at e))
     by (w ∷ ws) q = by_kind w ws q (find kind_rules w) refl

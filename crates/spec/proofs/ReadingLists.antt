@@ -1,7 +1,8 @@
 -- Facts of lists: what holds of every element, and sums.
 use Prim.Native.Nat.{ℕ, zero, suc, ◌+◌, ◌≤◌, ◌<◌}
 use mathlib.Core.List.{List, [], ◌∷◌, ◌++◌}
-use mathlib.Core.Option.{some, none-ne-some}
+use Rattle.std.specs.Prelude.{Some}
+use Rattle.std.proofs.lemmas.Option.{none-some}
 use mathlib.Core.Path.{◌≡◌, refl, ap₂}
 use native.Mathlib.Omega.{arith}
 use Rattle.spec.specs.Ticket.{sum}
@@ -24,9 +25,9 @@ All_append P [] y h p = (p, tt)
 All_append P (x ∷ xs) y h p = (h.0, All_append P xs y h.1 p)
 
 -- what holds of every element holds of the one at a number
-pub All_nth : {A : Type 0} (P : A → Type 0) (xs : List A) (k : ℕ) (x : A) → All P xs → nth xs k ≡ some x → P x
+pub All_nth : {A : Type 0} (P : A → Type 0) (xs : List A) (k : ℕ) (x : A) → All P xs → nth xs k ≡ Some x → P x
 unfolding All nth
-All_nth P [] k x h e = absurd (none-ne-some _ e)
+All_nth P [] k x h e = absurd (none-some _ e)
 All_nth P (y ∷ xs) zero x h e = let g : y ≡ x = cc in rw (← g) h.0
 All_nth P (y ∷ xs) (suc k) x h e = All_nth P xs k x h.1 e
 

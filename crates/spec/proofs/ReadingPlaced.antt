@@ -2,7 +2,7 @@
 use Prim.Native.Nat.{ℕ, ◌≤◌}
 use mathlib.Core.Bool.{Bool, true, false, ◌||◌}
 use mathlib.Core.List.{List}
-use mathlib.Core.Option.{none}
+use Rattle.std.specs.Prelude.{None}
 use mathlib.Core.Path.{◌≡◌, refl}
 use native.Mathlib.Omega.{arith}
 use borrow.Author.Tests.{ltb-true, leb-true, eqb-true, eqb-false}
@@ -33,7 +33,7 @@ bit_right : (ty bit : ℕ) (b : Bool) → eqb bit 0 ≡ b → b || eqb ty 0 ≡ 
 bit_right ty bit true p h q = absurd (let z = eqb-true bit 0 p in omega arith)
 bit_right ty bit false p h q = eqb-true ty 0 h
 
-new_storage : (R : Reading) (xa : List Arg) → Args storage_fields none xa → refusal_of R (record { head = s_line; args = xa }) ≡ none
+new_storage : (R : Reading) (xa : List Arg) → Args storage_fields None xa → refusal_of R (record { head = s_line; args = xa }) ≡ None
     → StorageRight (record { kind = arg (values xa) 0; len = arg (values xa) 1; owner = arg (values xa) 2; regions = arg (values xa) 3 })
 unfolding All
 new_storage R xa (next k (next l (next o (next g done)))) e =
@@ -52,7 +52,7 @@ new_storage R xa (next k (next l (next o (next g done)))) e =
 abbrev placed_line : List ℕ → PlacedLine
 placed_line xs = record { storage = arg xs 0; offset = arg xs 1; type = arg xs 2; bit = arg xs 3 }
 
-new_placed : (T : Tables) (xa : List Arg) → Args placed_fields none xa → Within xa → Standing T xa → fits v_line (values xa) ≡ true
+new_placed : (T : Tables) (xa : List Arg) → Args placed_fields None xa → Within xa → Standing T xa → fits v_line (values xa) ≡ true
     → PlacedRight T (placed_line (values xa))
 unfolding All
 new_placed T xa (next s (next o (next ty (next b done)))) r h f =
@@ -95,11 +95,11 @@ module _ (R : Reading) (n : ℕ) where
   before h xa ps = grown R.tables (add_line R.tables n h xa) (grows R.tables n h xa).0 (grows R.tables n h xa).1 ps
 
   -- the new one
-  new : (h : Head) (xa : List Arg) → Args placed_fields none xa → refusal_of R (record { head = h; args = xa }) ≡ none → fits v_line (values xa) ≡ true
+  new : (h : Head) (xa : List Arg) → Args placed_fields None xa → refusal_of R (record { head = h; args = xa }) ≡ None → fits v_line (values xa) ≡ true
       → PlacedRight R.tables (placed_line (values xa))
   new h xa f e = new_placed R.tables xa f (ranged R (record { head = h; args = xa }) e) (standing R (record { head = h; args = xa }) e)
 
-  pub placed : (h : Head) (xa : List Arg) → Formed h xa → refusal_of R (record { head = h; args = xa }) ≡ none
+  pub placed : (h : Head) (xa : List Arg) → Formed h xa → refusal_of R (record { head = h; args = xa }) ≡ None
       → Placed R.tables → Placed (add_line R.tables n h xa)
   unfolding add_line
   placed f_line xa f e c =

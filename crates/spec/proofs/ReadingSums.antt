@@ -2,7 +2,7 @@
 use Prim.Native.Nat.{ℕ, suc, ◌+◌, ◌≤◌, ◌<◌}
 use mathlib.Core.Bool.{false}
 use mathlib.Core.List.{List, [], ◌∷◌, ◌++◌}
-use mathlib.Core.Option.{none}
+use Rattle.std.specs.Prelude.{None}
 use mathlib.Core.Path.{◌≡◌, refl, sym, ap, ◌∙◌}
 use native.Mathlib.Omega.{arith}
 use native.Mathlib.Nat.{add-zero}
@@ -27,13 +27,13 @@ use Rattle.spec.proofs.ReadingMarks.{marked}
 -- ---------------------------------------------------------------- the pool of nodes
 
 -- the line's marks
-marks : (R : Reading) (l : Line) → Pool R.tables.nodes R.used.nodes → refusal_of R l ≡ none
+marks : (R : Reading) (l : Line) → Pool R.tables.nodes R.used.nodes → refusal_of R l ≡ None
     → Marked (node_values l.args) R.used.nodes (mark l.args R.used).nodes
 unfolding refusal_of
 marks R l P e =
     marked l.args R.used (passed _ _ _ _ _ _ _ _ _ e).once (rw P.marks (nodes_below R.tables l.args (standing R l e)))
 
-new_node : (R : Reading) (n : ℕ) (w : NodeWord) (xa : List Arg) → NodeFormed w xa → refusal_of R (record { head = n_line w; args = xa }) ≡ none
+new_node : (R : Reading) (n : ℕ) (w : NodeWord) (xa : List Arg) → NodeFormed w xa → refusal_of R (record { head = n_line w; args = xa }) ≡ None
     → Pool R.tables.nodes R.used.nodes
     → Pool (add_line R.tables n (n_line w) xa).nodes ((mark xa R.used).nodes ++ (false ∷ []))
 unfolding refusal_of add_line
@@ -47,7 +47,7 @@ new_node R n w xa (node_formed {xa = ya} ty q) e P =
       depth_most = leb-true (depth_of R.tables l.args) depth_limit (passed _ _ _ _ _ _ _ _ _ e).depth;
     })
 
-pub pooled : (R : Reading) (h : Head) (xa : List Arg) → Formed h xa → refusal_of R (record { head = h; args = xa }) ≡ none
+pub pooled : (R : Reading) (h : Head) (xa : List Arg) → Formed h xa → refusal_of R (record { head = h; args = xa }) ≡ None
     → Pool R.tables.nodes R.used.nodes
     → Pool (add R (record { head = h; args = xa })).tables.nodes (add R (record { head = h; args = xa })).used.nodes
 unfolding add add_line
@@ -90,7 +90,7 @@ more_types ts t ns s w c =
       weights_most = c.weights_most;
     }
 
-more_nodes : (R : Reading) (k : ℕ) (w : NodeWord) (xa : List Arg) → NodeFormed w xa → refusal_of R (record { head = n_line w; args = xa }) ≡ none
+more_nodes : (R : Reading) (k : ℕ) (w : NodeWord) (xa : List Arg) → NodeFormed w xa → refusal_of R (record { head = n_line w; args = xa }) ≡ None
     → Summed R.tables.types R.tables.nodes R.sizes R.weights
     → Summed R.tables.types (add_line R.tables k (n_line w) xa).nodes
     (R.sizes + size_at R.tables.types (arg (values xa) 0)) (R.weights + weight_at R.tables.types (arg (values xa) 0))
@@ -112,7 +112,7 @@ more_nodes R k w xa (node_formed {xa = ya} ty q) e c =
 abbrev pub Sums : Reading → Type 0
 Sums R = Summed R.tables.types R.tables.nodes R.sizes R.weights
 
-pub summed : (R : Reading) (h : Head) (xa : List Arg) → Formed h xa → refusal_of R (record { head = h; args = xa }) ≡ none
+pub summed : (R : Reading) (h : Head) (xa : List Arg) → Formed h xa → refusal_of R (record { head = h; args = xa }) ≡ None
     → Sums R → Sums (add R (record { head = h; args = xa }))
 unfolding add add_line
 summed R f_line xa f e c = simp add-zero c

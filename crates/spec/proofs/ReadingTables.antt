@@ -1,7 +1,7 @@
 -- Tables line by line: counts, types and the first line's numbers are kept right by every accepted line.
 use Prim.Native.Nat.{ℕ, ◌≤◌}
 use mathlib.Core.List.{List}
-use mathlib.Core.Option.{none}
+use Rattle.std.specs.Prelude.{None}
 use mathlib.Core.Path.{◌≡◌, refl}
 use native.Mathlib.Omega.{arith}
 use borrow.Author.Tests.{ltb-true}
@@ -24,7 +24,7 @@ Counted T =
     (length T.types ≤ type_lines) × (length T.storages ≤ storage_lines) × (length T.variables ≤ variable_lines)
     × (length T.statics ≤ static_lines) × (length T.places ≤ place_lines) × (length T.nodes ≤ node_lines)
 
-pub counted : (R : Reading) (n : ℕ) (h : Head) (xa : List Arg) → refusal_of R (record { head = h; args = xa }) ≡ none → Counted R.tables
+pub counted : (R : Reading) (n : ℕ) (h : Head) (xa : List Arg) → refusal_of R (record { head = h; args = xa }) ≡ None → Counted R.tables
     → Counted (add_line R.tables n h xa)
 unfolding refusal_of add_line
 counted R n f_line xa e c = c
@@ -53,7 +53,7 @@ pub record Typed (ts : List TypeLine) : Type 0 where
   pub right : Types ts
   pub start : Begun ts
 
-pub typed : (R : Reading) (n : ℕ) (h : Head) (xa : List Arg) → Formed h xa → refusal_of R (record { head = h; args = xa }) ≡ none
+pub typed : (R : Reading) (n : ℕ) (h : Head) (xa : List Arg) → Formed h xa → refusal_of R (record { head = h; args = xa }) ≡ None
     → Typed R.tables.types → Typed (add_line R.tables n h xa).types
 unfolding add_line
 typed R n f_line xa f e c = c
@@ -74,14 +74,14 @@ pub record Headed (function next : ℕ) : Type 0 where
 abbrev pub Head_of : Tables → Type 0
 Head_of T = Headed T.function T.next
 
-new_head : (R : Reading) (n : ℕ) (xa : List Arg) → Args function_fields none xa → refusal_of R (record { head = f_line; args = xa }) ≡ none
+new_head : (R : Reading) (n : ℕ) (xa : List Arg) → Args function_fields None xa → refusal_of R (record { head = f_line; args = xa }) ≡ None
     → Head_of (add_line R.tables n f_line xa)
 unfolding add_line All
 new_head R n xa (next a (next b done)) e =
     let r = ranged R (record { head = f_line; args = _ }) e in
     record { function_most = (in_range 0 greatest_16 a r.0).1; next_most = (in_range 0 greatest_16 b r.1.0).1 }
 
-pub headed : (R : Reading) (n : ℕ) (h : Head) (xa : List Arg) → Formed h xa → refusal_of R (record { head = h; args = xa }) ≡ none
+pub headed : (R : Reading) (n : ℕ) (h : Head) (xa : List Arg) → Formed h xa → refusal_of R (record { head = h; args = xa }) ≡ None
     → Head_of R.tables → Head_of (add_line R.tables n h xa)
 unfolding add_line
 headed R n f_line xa f e c = new_head R n xa f e

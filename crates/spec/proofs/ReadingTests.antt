@@ -2,7 +2,8 @@
 use Prim.Native.Nat.{ℕ, ◌≤◌}
 use mathlib.Core.Bool.{Bool, true, false, ◌&&◌, ◌||◌}
 use mathlib.Core.List.{List, [], ◌∷◌}
-use mathlib.Core.Option.{none, none-ne-some as none≢some}
+use Rattle.std.specs.Prelude.{None}
+use Rattle.std.proofs.lemmas.Option.{none-some}
 use mathlib.Core.Path.{◌≡◌, refl, sym}
 use borrow.Author.Tests.{leb-true}
 use lib.Dec.{ltb, leb, eqb}
@@ -27,21 +28,21 @@ pub record Passed (o f r e t s u d m : Bool) : Type 0 where
   pub sums : m ≡ true
 
 -- the first that fails is none only where every test passes
-all_pass : (ts : List Test) → first_failed ts ≡ none → All (λ (t : Test). t.passes ≡ true) ts
+all_pass : (ts : List Test) → first_failed ts ≡ None → All (λ (t : Test). t.passes ≡ true) ts
 unfolding first_failed All
 all_pass [] e = tt
 all_pass (t ∷ ts) e = by_test t.passes e (λ p. all_pass ts p)
   where
-    by_test : (b : Bool) → first_failed (record { refusal = t.refusal; passes = b } ∷ ts) ≡ none
-        → (first_failed ts ≡ none → All (λ (t : Test). t.passes ≡ true) ts) → (b ≡ true) × All (λ (t : Test). t.passes ≡ true) ts
+    by_test : (b : Bool) → first_failed (record { refusal = t.refusal; passes = b } ∷ ts) ≡ None
+        → (first_failed ts ≡ None → All (λ (t : Test). t.passes ≡ true) ts) → (b ≡ true) × All (λ (t : Test). t.passes ≡ true) ts
     by_test true e rest = (refl, rest e)
-    by_test false e rest = absurd (none≢some _ (sym e))
+    by_test false e rest = absurd (none-some _ (sym e))
 
 abbrev test : ℕ → Bool → Test
 test n b = record { refusal = n; passes = b }
 
 pub passed : (o f r e t s u d m : Bool)
-    → first_failed (test 2 o ∷ test 8 f ∷ test 3 r ∷ test 4 e ∷ test 5 t ∷ test 6 s ∷ test 7 u ∷ test 9 d ∷ test 10 m ∷ []) ≡ none
+    → first_failed (test 2 o ∷ test 8 f ∷ test 3 r ∷ test 4 e ∷ test 5 t ∷ test 6 s ∷ test 7 u ∷ test 9 d ∷ test 10 m ∷ []) ≡ None
     → Passed o f r e t s u d m
 unfolding All
 passed o f r e t s u d m h =
@@ -86,7 +87,7 @@ within node x = true
 abbrev pub Within : List Arg → Type 0
 Within xa = All (λ (a : Arg). within a.class a.value ≡ true) xa
 
-pub ranged : (R : Reading) (l : Line) → refusal_of R l ≡ none → Within l.args
+pub ranged : (R : Reading) (l : Line) → refusal_of R l ≡ None → Within l.args
 unfolding refusal_of
 ranged R l e =
     every_one (λ a. within a.class a.value) l.args
@@ -105,7 +106,7 @@ fits (t_line w) xs = true
 fits (p_line w) xs = true
 fits (n_line w) xs = true
 
-pub fitting : (R : Reading) (l : Line) → refusal_of R l ≡ none → fits l.head (values l.args) ≡ true
+pub fitting : (R : Reading) (l : Line) → refusal_of R l ≡ None → fits l.head (values l.args) ≡ true
 unfolding refusal_of
 fitting R l e = and_right (every (λ a. within a.class a.value) l.args) _ (passed _ _ _ _ _ _ _ _ _ e).ranges
 
@@ -122,6 +123,6 @@ stands T node x = ltb x (length T.nodes)
 abbrev pub Standing : Tables → List Arg → Type 0
 Standing T xa = All (λ (a : Arg). stands T a.class a.value ≡ true) xa
 
-pub standing : (R : Reading) (l : Line) → refusal_of R l ≡ none → Standing R.tables l.args
+pub standing : (R : Reading) (l : Line) → refusal_of R l ≡ None → Standing R.tables l.args
 unfolding refusal_of
 standing R l e = every_one (λ a. stands R.tables a.class a.value) l.args (passed _ _ _ _ _ _ _ _ _ e).earlier

@@ -2,7 +2,7 @@
 use Prim.Native.Nat.{ℕ, suc, ◌≤◌}
 use mathlib.Core.Bool.{Bool, true, false}
 use mathlib.Core.List.{List, [], ◌∷◌}
-use mathlib.Core.Option.{Option, none, some}
+use Rattle.std.specs.Prelude.{Option, None, Some}
 use mathlib.Core.Path.{◌≡◌, refl}
 use native.Mathlib.Omega.{arith}
 use borrow.Author.Tests.{eqb-false}
@@ -60,7 +60,7 @@ good_start =
       bools = tt;
     }
 
-pub good_add : (R : Reading) (l : Line) → Formed l.head l.args → refusal_of R l ≡ none → Good R → Good (add R l)
+pub good_add : (R : Reading) (l : Line) → Formed l.head l.args → refusal_of R l ≡ None → Good R → Good (add R l)
 unfolding add
 good_add R l f e g =
     record {
@@ -85,16 +85,16 @@ good_step : (R R' : Reading) (s : List ℕ) → step R (line_of s) ≡ go R' →
 unfolding step
 good_step R R' s e g = by (line_of s) refl
   where
-    by_refusal : (l : Line) → line_of s ≡ some l → (o : Option ℕ) → refusal_of R l ≡ o → Good R'
-    by_refusal l q (some n) p = absurd (stop≢go (rw (q, p) at e))
-    by_refusal l q none p =
+    by_refusal : (l : Line) → line_of s ≡ Some l → (o : Option ℕ) → refusal_of R l ≡ o → Good R'
+    by_refusal l q (Some n) p = absurd (stop≢go (rw (q, p) at e))
+    by_refusal l q None p =
         let e' : go (add R l) ≡ go R' = rw (q, p) at e in
         let r : add R l ≡ R' = cc in
         rw (← r) (good_add R l (line_formed s l q) p g)
 
     by : (o : Option Line) → line_of s ≡ o → Good R'
-    by none q = absurd (stop≢go (rw q at e))
-    by (some l) q = by_refusal l q (refusal_of R l) refl
+    by None q = absurd (stop≢go (rw q at e))
+    by (Some l) q = by_refusal l q (refusal_of R l) refl
 
 -- a good state with these tables, and a node among them
 pub record Ends (T : Tables) : Type 0 where
@@ -108,9 +108,9 @@ unfolding at_end
 end_good R T g e = by (left_over R) refl (eqb (length R.tables.nodes) 0) refl
   where
     by : (o : Option ℕ) → left_over R ≡ o → (b : Bool) → eqb (length R.tables.nodes) 0 ≡ b → Ends T
-    by (some n) q b p = absurd (refused≢accepted (rw q at e))
-    by none q true p = absurd (refused≢accepted (rw (q, p) at e))
-    by none q false p =
+    by (Some n) q b p = absurd (refused≢accepted (rw q at e))
+    by None q true p = absurd (refused≢accepted (rw (q, p) at e))
+    by None q false p =
         let e' : accepted R.tables ≡ accepted T = rw (q, p) at e in
         let n = eqb-false (length R.tables.nodes) 0 p in
         record { state = R; good = g; tables_are = cc; some_node = omega arith }

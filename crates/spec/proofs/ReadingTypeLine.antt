@@ -2,7 +2,7 @@
 use Prim.Native.Nat.{ℕ, ◌≤◌}
 use mathlib.Core.Bool.{Bool, true, not}
 use mathlib.Core.List.{List, [], ◌∷◌, ◌++◌}
-use mathlib.Core.Option.{none}
+use Rattle.std.specs.Prelude.{None}
 use mathlib.Core.Path.{◌≡◌, refl, ap, ◌∙◌}
 use native.Mathlib.Omega.{arith}
 use borrow.Author.Tests.{leb-true, eqb-true}
@@ -54,7 +54,7 @@ coded_code t_opaque = refl
 same_code : (w : TypeWord) (n : ℕ) → eqb (code w) n ≡ true → w ≡ coded n
 same_code w n e = coded_code w ∙ ap coded (eqb-true (code w) n e)
 
-pub begun : (R : Reading) (w : TypeWord) (xa : List Arg) (t : TypeLine) → refusal_of R (record { head = t_line w; args = xa }) ≡ none
+pub begun : (R : Reading) (w : TypeWord) (xa : List Arg) (t : TypeLine) → refusal_of R (record { head = t_line w; args = xa }) ≡ None
     → t.word ≡ w → Begun R.tables.types → Begun (R.tables.types ++ (t ∷ []))
 unfolding refusal_of
 begun R w xa t e f h = by R.tables.types refl
@@ -73,12 +73,12 @@ begun R w xa t e f h = by R.tables.types refl
 
 -- ---------------------------------------------------------------- the new line
 
-width : (R : Reading) (w : TypeWord) (xa : List Arg) → Args (between 1 64 ∷ []) none xa → refusal_of R (record { head = t_line w; args = xa }) ≡ none
+width : (R : Reading) (w : TypeWord) (xa : List Arg) → Args (between 1 64 ∷ []) None xa → refusal_of R (record { head = t_line w; args = xa }) ≡ None
     → (1 ≤ arg (values xa) 0) × (arg (values xa) 0 ≤ 64)
 unfolding All
 width R w xa (next x done) e = in_range 1 64 x (ranged R (record { head = t_line w; args = _ }) e).0
 
-pub new_type : (R : Reading) (w : TypeWord) (xa : List Arg) → TypeFormed w xa → refusal_of R (record { head = t_line w; args = xa }) ≡ none
+pub new_type : (R : Reading) (w : TypeWord) (xa : List Arg) → TypeFormed w xa → refusal_of R (record { head = t_line w; args = xa }) ≡ None
     → TypeRight R.tables.types (length R.tables.types)
     (record {
       word = w;

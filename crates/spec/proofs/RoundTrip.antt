@@ -3,7 +3,7 @@ use Prim.Native.Nat.{ℕ, ◌≤◌}
 use Prim.Native.String.{String}
 use mathlib.Core.Bool.{false}
 use mathlib.Core.List.{List, [], ◌∷◌, ◌++◌, map, append_assoc}
-use mathlib.Core.Option.{some}
+use Rattle.std.specs.Prelude.{Some}
 use mathlib.Core.Path.{◌≡◌, refl, ◌∙◌}
 use native.Mathlib.Omega.{arith}
 use lib.ListN.{length, length-append}
@@ -21,7 +21,7 @@ use Rattle.spec.proofs.ListingValues.{shape_fields, value_lines, value_cut, valu
 
 -- ---------------------------------------------------------------- storages
 
-purpose : (p : Lir.Purpose) → nth read.purposes (print.purpose_number p) ≡ some p
+purpose : (p : Lir.Purpose) → nth read.purposes (print.purpose_number p) ≡ Some p
 unfolding nth read.purposes print.purpose_number
 purpose Lir.tmp = refl
 purpose Lir.add_carry = refl
@@ -33,7 +33,7 @@ purpose Lir.integer_to_boolean = refl
 purpose Lir.condition = refl
 purpose Lir.read_bool = refl
 
-kind : (k : Lir.StorageKind) → read.kind_of (print.kind_number k) (print.kind_length k) ≡ some k
+kind : (k : Lir.StorageKind) → read.kind_of (print.kind_number k) (print.kind_length k) ≡ Some k
 unfolding read.kind_of print.kind_number print.kind_length
 kind Lir.bit = refl
 kind Lir.byte = refl
@@ -159,7 +159,7 @@ value_and_done : (l : Lir.Listing) (k : ℕ) → length (value_lines l.value) �
 unfolding behind_instructions
 value_and_done l k h = takes_then _ (value_back l.value k h) (takes_last _ (takes_next _ (line_back "done" (done_back l.done))))
 
-listing_back : (l : Lir.Listing) (k : ℕ) → length (value_lines l.value) ≤ k → read.listing k (listing_lines l) ≡ some (record { it = l; rest = [] })
+listing_back : (l : Lir.Listing) (k : ℕ) → length (value_lines l.value) ≤ k → read.listing k (listing_lines l) ≡ Some (record { it = l; rest = [] })
 unfolding read.listing listing_lines behind_storages behind_narrowed
 listing_back l k h =
     several_then (line_of "storage" read.storage) storage_line (λ s. line_back "storage" (storage_back s)) l.storages (behind_storages l) (storages_end l) _
@@ -172,6 +172,6 @@ lines_enough : (l : Lir.Listing) → length (value_lines l.value) ≤ length (li
 unfolding listing_lines behind_storages behind_narrowed behind_instructions
 lines_enough l = simp length-append (omega arith)
 
-pub round_trip : (l : Lir.Listing) → read_listing (print_listing l) ≡ some l
+pub round_trip : (l : Lir.Listing) → read_listing (print_listing l) ≡ Some l
 unfolding read_listing
 round_trip l = rw (lines_whole (listing_cut l)) (whole_of _ _ (listing_back l (length (listing_lines l)) (lines_enough l)))

@@ -2,7 +2,7 @@
 use Prim.Native.Nat.{ℕ, suc, ◌%◌, ◌^◌, ◌<◌}
 use mathlib.Core.Bool.{Bool, true, false}
 use mathlib.Core.List.{List, [], ◌∷◌}
-use mathlib.Core.Option.{Option, none, some}
+use Rattle.std.specs.Prelude.{Option, None, Some}
 use mathlib.Core.Path.{◌≡◌, refl, sym, ap, ◌∙◌}
 use native.Mathlib.Omega.{arith}
 use native.Mathlib.Nat.{le_refl, mod-eq_of_lt}
@@ -36,10 +36,10 @@ use Rattle.spec.proofs.RunSteps.{Wrote, temporary, destinations, width_is, finis
 
 -- what a form of lowering works out: undefined only among the whole operations
 abbrev pub form_number : BinaryForm → ℕ → ℕ → ℕ → Option ℕ
-form_number adding w a b = some (iadd w a b)
-form_number subtracting w a b = some (isub w a b)
-form_number (bytewise op) w a b = some (byte_op op a b)
-form_number (shifting op) w a b = some (shift_op op w a b)
+form_number adding w a b = Some (iadd w a b)
+form_number subtracting w a b = Some (isub w a b)
+form_number (bytewise op) w a b = Some (byte_op op a b)
+form_number (shifting op) w a b = Some (shift_op op w a b)
 form_number (whole op) w a b = binary_op op w a b
 
 -- each operator's number is its form's
@@ -74,7 +74,7 @@ pub record Writes (G : Given) (w n x : ℕ) (M : Memory) (ks : List InstructionK
 
 module _ (G : Given) where
   rotate_8 : {n a b : ℕ} {M : Memory} (ls rs : List ByteOperand) (op : ShiftOp) (dir : RotateDirection) → Word 8 n M ls a → Word 8 n M rs b
-      → rotate_direction op ≡ some dir → all_immediate rs ≡ true
+      → rotate_direction op ≡ Some dir → all_immediate rs ≡ true
       → Writes G 8 n (shift_op op 8 a b) M (byte_rotates dir (at n 0) (first_operand ls) (lowest_byte rs % 8))
   unfolding mask_last bytes_of
   rotate_8 {n} {a} {b} {M} ls rs op dir hl hr e i =
@@ -106,7 +106,7 @@ module _ (G : Given) where
         }
 
     -- a byte turned by a constant, or one instruction
-    turned_or_shifted : (op : ShiftOp) (dir : RotateDirection) → rotate_direction op ≡ some dir → (t : Bool) → byte_rotate w (bytes_from n 0 (size w)) ls rs ≡ t
+    turned_or_shifted : (op : ShiftOp) (dir : RotateDirection) → rotate_direction op ≡ Some dir → (t : Bool) → byte_rotate w (bytes_from n 0 (size w)) ls rs ≡ t
         → Writes G w n (shift_op op w a b) M (shifts op w (bytes_from n 0 (size w)) ls rs)
     unfolding shifts first_storage bytes_from
     turned_or_shifted op dir d true e =
@@ -116,8 +116,8 @@ module _ (G : Given) where
 
     shifted : (op : ShiftOp) (o : Option RotateDirection) → rotate_direction op ≡ o → Writes G w n (shift_op op w a b) M (shifts op w (bytes_from n 0 (size w)) ls rs)
     unfolding shifts
-    shifted op none d = rw d (one_shift op)
-    shifted op (some dir) d = turned_or_shifted op dir d _ refl
+    shifted op None d = rw d (one_shift op)
+    shifted op (Some dir) d = turned_or_shifted op dir d _ refl
 
   -- ------------------------------------------------------------ the forms
 
@@ -150,7 +150,7 @@ module _ (G : Given) where
         let W = shifted B.some_width hl hr op (rotate_direction op) refl in
         ◌then◌ G (width_is G T ty B) (at_it G (ending G (emitting G _ W.total) W.wrote))
 
-    worked_whole : (op : IntegerBinaryBytesOp) (x : ℕ) → binary_op op w a b ≡ some x
+    worked_whole : (op : IntegerBinaryBytesOp) (x : ℕ) → binary_op op w a b ≡ Some x
         → From G (suc n) M (binary_instructions T (whole op) ty (bytes_from n 0 (size w)) ls rs) (Wrote w n x M)
     unfolding binary_instructions defined effect
     worked_whole op x e =
@@ -158,7 +158,7 @@ module _ (G : Given) where
         let s = number_is hr in
         ◌then◌ G (width_is G T ty B) (at_it G (ending G (emitting_one G _ (rw (r, s, e) refl)) (rw (r, s, e) (spreads (whole_lt op w a b hl.fits e)))))
 
-    instructed : (form : BinaryForm) (x : ℕ) → form_number form w a b ≡ some x
+    instructed : (form : BinaryForm) (x : ℕ) → form_number form w a b ≡ Some x
         → From G (suc n) M (binary_instructions T form ty (bytes_from n 0 (size w)) ls rs) (Wrote w n x M)
     instructed adding x e = let q : iadd w a b ≡ x = cc in rw (← q) added
     instructed subtracting x e = let q : isub w a b ≡ x = cc in rw (← q) subtracted
@@ -166,7 +166,7 @@ module _ (G : Given) where
     instructed (shifting op) x e = let q : shift_op op w a b ≡ x = cc in rw (← q) (all_shifted op)
     instructed (whole op) x e = worked_whole op x e
 
-    below : (form : BinaryForm) (x : ℕ) → form_number form w a b ≡ some x → x < 2 ^ w
+    below : (form : BinaryForm) (x : ℕ) → form_number form w a b ≡ Some x → x < 2 ^ w
     below adding x e = let q : iadd w a b ≡ x = cc in rw (← q) (add_lt w a b)
     below subtracting x e = let q : isub w a b ≡ x = cc in rw (← q) (sub_lt w a b)
     below (bytewise op) x e = let q : byte_op op a b ≡ x = cc in rw (← q) (bitwise_lt op w a b hl.fits hr.fits)
@@ -174,7 +174,7 @@ module _ (G : Given) where
     below (whole op) x e = whole_lt op w a b hl.fits e
 
     -- operands that denote a and b, a defined result x: the value denotes x
-    pub binary_step : (op : IntegerBinaryOp) (t₁ t₂ x : ℕ) → binary_numeric op w a b ≡ some x
+    pub binary_step : (op : IntegerBinaryOp) (t₁ t₂ x : ℕ) → binary_numeric op w a b ≡ Some x
         → From G n M (lower_integer_binary T op (value t₁ (bytes_value ls)) (value t₂ (bytes_value rs)) ty) (Gives T n M ty (number (size w) x))
     unfolding lower_integer_binary value_bytes
     binary_step op t₁ t₂ x e =

@@ -1,7 +1,7 @@
 -- The numerics' results are numbers below 2 ^ w.
 use Prim.Native.Nat.{ℕ, zero, suc, ◌+◌, ◌-◌, ◌*◌, ◌/◌, ◌%◌, ◌^◌, ◌≤◌, ◌<◌, zero-le}
 use mathlib.Core.Bool.{Bool, true, false, not}
-use mathlib.Core.Option.{Option, some}
+use Rattle.std.specs.Prelude.{Option, Some}
 use mathlib.Core.Path.{◌≡◌}
 use native.Mathlib.Omega.{arith}
 use native.Mathlib.Nat.{mod-lt, div-le_self, mul-mod_left, mod-le}
@@ -84,11 +84,11 @@ sat_u_lt w (pos n) = omega (arith, pow_pos w)
 sat_u_lt w (negsuc n) = pow_pos w
 
 -- where a result is defined, it is what it says
-defined_is : (t : Bool) (r : Option ℕ) {x : ℕ} → undefined_if t r ≡ some x → r ≡ some x
+defined_is : (t : Bool) (r : Option ℕ) {x : ℕ} → undefined_if t r ≡ Some x → r ≡ Some x
 defined_is true r e = cc
 defined_is false r e = e
 
-some_lt : {y x m : ℕ} → y < m → some y ≡ some x → x < m
+some_lt : {y x m : ℕ} → y < m → Some y ≡ Some x → x < m
 some_lt {y} {x} h e = let q : y ≡ x = cc in rw (← q) h
 
 -- the numerics' own test of a quotient
@@ -96,7 +96,7 @@ abbrev is_number : ℤ → ℕ → Bool
 is_number (pos n) m = eqb n m
 is_number (negsuc n) m = false
 
-pub whole_lt : (op : IntegerBinaryBytesOp) (w a b : ℕ) {x : ℕ} → a < 2 ^ w → binary_op op w a b ≡ some x → x < 2 ^ w
+pub whole_lt : (op : IntegerBinaryBytesOp) (w a b : ℕ) {x : ℕ} → a < 2 ^ w → binary_op op w a b ≡ Some x → x < 2 ^ w
 unfolding binary_op imul idiv_s idiv_u irem_s irem_u iadd_sat_u iadd_sat_s isub_sat_u isub_sat_s
 whole_lt lir.multiply w a b h e = some_lt (mod-lt (a * b) (pow_pos w)) e
 whole_lt lir.divide_unsigned w a b h e = some_lt (omega (arith, div-le_self a b)) (defined_is (eqb b 0) _ e)

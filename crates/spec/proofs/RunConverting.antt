@@ -1,7 +1,8 @@
 -- Each conversion, by the types that it goes between.
 use Prim.Native.Nat.{ℕ, ◌^◌, ◌≤◌, ◌<◌}
 use mathlib.Core.Bool.{true, ◌&&◌}
-use mathlib.Core.Option.{some, some-injective as of_some}
+use Rattle.std.specs.Prelude.{Some}
+use Rattle.std.proofs.lemmas.Option.{same_Some}
 use mathlib.Core.Path.{◌≡◌, refl, sym}
 use native.Mathlib.Nat.{le_trans, mod-eq_of_lt}
 use lib.Pow.{pow_mono}
@@ -56,37 +57,37 @@ module _ (G : Given) (T : Tables) (R : TypesRight T) where
           rw k.0 (has_bits T (rw w at (bits_of_test T R t c.0)) k.1)
 
   -- THE STEP of every conversion
-  pub conversion_step : {n : ℕ} {M : Memory} {d' : Data} (h : At) (op : ConversionOp) (s t : ℕ) (d : Data) → conversion_typed T op s t ≡ true → conversion_data T op s t d ≡ some d'
+  pub conversion_step : {n : ℕ} {M : Memory} {d' : Data} (h : At) (op : ConversionOp) (s t : ℕ) (d : Data) → conversion_typed T op s t ≡ true → conversion_data T op s t d ≡ Some d'
       → After G (Gives T n M s d) (λ v. own h (lower_conversion T op v t)) (Gives T n M t d')
   unfolding conversion_typed conversion_data lower_conversion conversion_form
   conversion_step h hir.truncate s t d e v =
       let b = both _ _ (both _ _ e).0 in
       let B = bits_of_test T R t b.1 in
-      number_after G T refl (bits_of_test T R s b.0) (λ bs n₁ M₁ l₁ a₁ w₁. rw (← by_width T B (of_some _ _ v)) (owned G h (rebased G l₁ a₁ (resize_step G T bs s t B w₁))))
+      number_after G T refl (bits_of_test T R s b.0) (λ bs n₁ M₁ l₁ a₁ w₁. rw (← by_width T B (same_Some _ _ v)) (owned G h (rebased G l₁ a₁ (resize_step G T bs s t B w₁))))
   conversion_step h hir.zero_extend s t d e v =
       let c = both _ _ e in
       let b = both _ _ c.0 in
       let B = bits_of_test T R t b.1 in
       number_after G T refl (bits_of_test T R s b.0) (λ bs n₁ M₁ l₁ a₁ w₁.
-      rw (← by_width T B (of_some _ _ v), ← extend_wraps (width T s) (width T t) (number_in d) w₁.fits (leb-true _ _ c.1))
+      rw (← by_width T B (same_Some _ _ v), ← extend_wraps (width T s) (width T t) (number_in d) w₁.fits (leb-true _ _ c.1))
       (owned G h (rebased G l₁ a₁ (resize_step G T bs s t B w₁))))
   conversion_step h hir.sign_extend s t d e v =
       let b = both _ _ (both _ _ e).0 in
       let A = bits_of_test T R s b.0 in
       let B = bits_of_test T R t b.1 in
-      number_after G T refl A (λ bs n₁ M₁ l₁ a₁ w₁. rw (← by_width T B (of_some _ _ v)) (owned G h (rebased G l₁ a₁ (sign_step G T bs s t A B w₁))))
+      number_after G T refl A (λ bs n₁ M₁ l₁ a₁ w₁. rw (← by_width T B (same_Some _ _ v)) (owned G h (rebased G l₁ a₁ (sign_step G T bs s t A B w₁))))
   conversion_step h (hir.integer_to_float x) s t d e v = never_true e
   conversion_step h (hir.float_to_integer x y) s t d e v = never_true e
   conversion_step h hir.promote_float s t d e v = never_true e
   conversion_step h hir.demote_float s t d e v = never_true e
   conversion_step h hir.reinterpret s t d e v =
-      record { go = λ u n₁ M₁ g. rw (← of_some _ _ v) (owned G h (rebased G g.later g.agree (reinterpret_step G T u t (reinterpreted_has s t d e g.has) g.denotes))) }
+      record { go = λ u n₁ M₁ g. rw (← same_Some _ _ v) (owned G h (rebased G g.later g.agree (reinterpret_step G T u t (reinterpreted_has s t d e g.has) g.denotes))) }
   conversion_step h hir.boolean_to_integer s t d e v =
       let b = both _ _ e in
       let B = bits_of_test T R t b.1 in
-      flag_after G T R (eqb-true _ _ b.0) (λ c n₁ M₁ l₁ a₁ l f₁. rw (← by_width T B (of_some _ _ v)) (owned G h (rebased G l₁ a₁ (from_boolean_step G T 0 t B l f₁))))
+      flag_after G T R (eqb-true _ _ b.0) (λ c n₁ M₁ l₁ a₁ l f₁. rw (← by_width T B (same_Some _ _ v)) (owned G h (rebased G l₁ a₁ (from_boolean_step G T 0 t B l f₁))))
   conversion_step h hir.integer_to_boolean s t d e v =
       let b = both _ _ e in
       let A = bits_of_test T R s b.0 in
       number_after G T refl A (λ bs n₁ M₁ l₁ a₁ w₁.
-      rw (← of_some _ _ v) (owned G h (rebased G l₁ a₁ (retyped G T (sym (eqb-true _ _ b.1)) (to_boolean_step G T R.bool_first bs s A w₁)))))
+      rw (← same_Some _ _ v) (owned G h (rebased G l₁ a₁ (retyped G T (sym (eqb-true _ _ b.1)) (to_boolean_step G T R.bool_first bs s A w₁)))))

@@ -1,7 +1,7 @@
 -- Why an aggregate's TYPE must have parts to be rightly typed: the smallest ticket whose run else leaves something else than it means.
 use mathlib.Core.Bool.{true, false}
 use mathlib.Core.List.{[], ◌∷◌}
-use mathlib.Core.Option.{some}
+use Rattle.std.specs.Prelude.{Some}
 use mathlib.Core.Path.{◌≡◌, refl}
 use Rattle.spec.specs.Text.{text}
 use Rattle.spec.specs.Hir.{Expr, boolean, select, aggregate, no_exprs}
@@ -23,12 +23,12 @@ unfolding computing
 listed = refl
 
 -- in order, and meaning no parts ..
-means : (in_order T (memory 0 0) empties ≡ true) × (eval T given (memory 0 0) empties ≡ some (parts no_data))
+means : (in_order T (memory 0 0) empties ≡ true) × (eval T given (memory 0 0) empties ≡ Some (parts no_data))
 unfolding computing
 means = (refl, refl)
 
 -- .. but what the run leaves is the byte that the new storage happens to hold
-differs : leaves empties (memory 0 0) ≡ some (number 1 0)
+differs : leaves empties (memory 0 0) ≡ Some (number 1 0)
 unfolding computing
 differs = refl
 

@@ -1,7 +1,7 @@
 -- From a ticket's bytes to a number, computed: answered, the bytes read back as a listing, and run.
 use Prim.Native.String.{String}
 use mathlib.Core.List.{List, [], ◌∷◌}
-use mathlib.Core.Option.{Option, none, some}
+use Rattle.std.specs.Prelude.{Option, None, Some}
 use mathlib.Core.Path.{◌≡◌, refl}
 use Rattle.spec.specs.Text.{text}
 use Rattle.spec.specs.Lir.{Listing}
@@ -17,11 +17,11 @@ unfolding computing back.lines back.headed back.then back.◌>>=◌ back.pure ba
 reading_back = tt
 
 abbrev run_listing : Memory → Option Listing → Option Data
-run_listing M none = none
-run_listing M (some l) = after_run l.value (run given l.instructions M)
+run_listing M None = None
+run_listing M (Some l) = after_run l.value (run given l.instructions M)
 
 abbrev run_answer : Memory → Answer → Option Data
-run_answer M (refused n l) = none
+run_answer M (refused n l) = None
 run_answer M (accepted s) = run_listing M (back.read_listing s)
 
 -- what the ticket's listing, in a buffer of 2,000 bytes, leaves in the value
@@ -30,18 +30,18 @@ left_by ticket M = run_answer M (answer (text ticket) 2000)
 
 -- document 01's printed case, with 505 in the variable
 printed_case : left_by ("f,0,0" ∷ "t,bool" ∷ "t,pointer" ∷ "t,bits,9" ∷ "s,2,2,1,36" ∷ "v,0,0,2,0" ∷ "p,variable,0" ∷
-    "n,2,read,0" ∷ "n,2,int,12" ∷ "n,2,binary,0,0,1" ∷ []) (memory 505 0) ≡ some (number 2 5)
+    "n,2,read,0" ∷ "n,2,int,12" ∷ "n,2,binary,0,0,1" ∷ []) (memory 505 0) ≡ Some (number 2 5)
 unfolding reading_back
 printed_case = refl
 
 -- a byte rotated left by 5: three rotates to the right
 rotated_5 : left_by ("f,0,0" ∷ "t,bool" ∷ "t,pointer" ∷ "t,bits,8" ∷ "s,1,0,1,36" ∷ "v,0,0,2,0" ∷ "p,variable,0" ∷
-    "n,2,read,0" ∷ "n,2,int,5" ∷ "n,2,binary,13,0,1" ∷ []) (memory 18 0) ≡ some (number 1 66)
+    "n,2,read,0" ∷ "n,2,int,5" ∷ "n,2,binary,13,0,1" ∷ []) (memory 18 0) ≡ Some (number 1 66)
 unfolding reading_back
 rotated_5 = refl
 
 -- 16 bits to 9: two copies and a mask
 truncated : left_by ("f,0,0" ∷ "t,bool" ∷ "t,pointer" ∷ "t,bits,9" ∷ "t,bits,16" ∷ "s,2,2,1,36" ∷ "v,0,0,3,0" ∷ "p,variable,0" ∷
-    "n,3,read,0" ∷ "n,2,convert,0,0" ∷ []) (memory 65535 0) ≡ some (number 2 511)
+    "n,3,read,0" ∷ "n,2,convert,0,0" ∷ []) (memory 65535 0) ≡ Some (number 2 511)
 unfolding reading_back
 truncated = refl

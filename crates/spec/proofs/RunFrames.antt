@@ -2,7 +2,7 @@
 use Prim.Native.Nat.{ℕ, zero, suc, ◌+◌, ◌≤◌, ◌<◌}
 use mathlib.Core.Bool.{Bool, true, false, cond}
 use mathlib.Core.List.{List, [], ◌∷◌, map}
-use mathlib.Core.Option.{Option, none, some}
+use Rattle.std.specs.Prelude.{Option, None, Some}
 use mathlib.Core.Logic.{◌≢◌}
 use mathlib.Core.Path.{◌≡◌, refl, ap, ap₂, ◌∙◌}
 use native.Mathlib.Omega.{arith}
@@ -64,8 +64,8 @@ agree_bit d v M h = record { bytes = λ s o l. refl; bits = λ s l. rw (ne_eqb s
 
 pub carry_bytes : (c : Option ℕ) (v : ℕ) (M : Memory) (s o : ℕ) → (set_carry c v M).byte s o ≡ M.byte s o
 unfolding set_carry set_bit
-carry_bytes none v M s o = refl
-carry_bytes (some c) v M s o = refl
+carry_bytes None v M s o = refl
+carry_bytes (Some c) v M s o = refl
 
 -- ---------------------------------------------------------------- bytes o and on of storage D
 
@@ -157,12 +157,12 @@ module _ (G : Given) where
 
   -- ------------------------------------------------------------ the instructions
 
-  carried : (b C N i v : ℕ) (M : Memory) → b ≤ C → (t : Bool) → Agree b M (set_carry (cond t none (some C)) v M)
+  carried : (b C N i v : ℕ) (M : Memory) → b ≤ C → (t : Bool) → Agree b M (set_carry (cond t None (Some C)) v M)
   unfolding set_carry
   carried b C N i v M h true = agree_refl
   carried b C N i v M h false = agree_bit C v M h
 
-  goes_on : (C N i v : ℕ) (M : Memory) → suc i < N → carry_of (set_carry (carry_out C N i) v M) (some C) ≡ v
+  goes_on : (C N i v : ℕ) (M : Memory) → suc i < N → carry_of (set_carry (carry_out C N i) v M) (Some C) ≡ v
   unfolding set_carry
   goes_on C N i v M h = rw (ne_eqb (suc i) N (λ e. omega arith)) (bit_here C v M)
 
@@ -180,7 +180,7 @@ module _ (G : Given) where
   neg_loop b N C h = record { total = λ i d l r M. refl; does = λ i d l r M. refl; next = λ i c x y M M' l e. goes_on C N i _ M' l; fresh = λ i v M. carried b C N i v M h (eqb (suc i) N) }
 
   abbrev pub no_carry : ℕ → Option ℕ
-  no_carry i = none
+  no_carry i = None
 
   pub bitwise_loop : (b N : ℕ) (op : ByteBinaryOp) → Loop b N (λ i d l r. byte_binary op d l r) (bitwise_low op) same no_carry no_carry
   unfolding effect defined set_carry

@@ -2,7 +2,7 @@
 use Prim.Native.Nat.{ℕ, suc}
 use mathlib.Core.Bool.{Bool, true, false}
 use mathlib.Core.List.{List, [], ◌∷◌}
-use mathlib.Core.Option.{Option, none, some}
+use Rattle.std.specs.Prelude.{Option, None, Some}
 use mathlib.Core.Path.{◌≡◌, refl}
 use native.Mathlib.Numerals.{add-one}
 use Rattle.spec.specs.Hir.{At}
@@ -98,11 +98,11 @@ module _ (G : Given) where
   requiring x true = purely tt
   requiring x false = record { leads = λ h t. tt }
 
-  pub got : {A : Type 0} {n : ℕ} {M : Memory} (x : ℕ) (a : A) → From n M (or_refuse x (some a)) (Is a n M)
+  pub got : {A : Type 0} {n : ℕ} {M : Memory} (x : ℕ) (a : A) → From n M (or_refuse x (Some a)) (Is a n M)
   unfolding or_refuse
   got x a = purely a
 
-  pub missing : {A : Type 0} {n : ℕ} {M : Memory} {Q : A → ℕ → Memory → Type 0} (x : ℕ) → From n M (or_refuse {A = A} x none) Q
+  pub missing : {A : Type 0} {n : ℕ} {M : Memory} {Q : A → ℕ → Memory → Type 0} (x : ℕ) → From n M (or_refuse {A = A} x None) Q
   unfolding or_refuse
   missing x = record { leads = λ h t. tt }
 
@@ -125,7 +125,7 @@ module _ (G : Given) where
       same : {A : Type 0} {a : A} {n : ℕ} {M : Memory} (R : A → ℕ → Memory → Type 0) → R a n M → (x : A) (y : ℕ) (N : Memory) → Is a n M x y N → R x y N
       same R r x y N it = r
 
-  pub refused_first : {A B : Type 0} {n : ℕ} {M : Memory} {f : A → Lower B} {R : B → ℕ → Memory → Type 0} (x : ℕ) → After (λ a n M. ⊥) f R → From n M (or_refuse {A = A} x none >>= f) R
+  pub refused_first : {A B : Type 0} {n : ℕ} {M : Memory} {f : A → Lower B} {R : B → ℕ → Memory → Type 0} (x : ℕ) → After (λ a n M. ⊥) f R → From n M (or_refuse {A = A} x None >>= f) R
   refused_first x g = ◌then◌ (missing x) g
 
   pub never : {A B : Type 0} {f : A → Lower B} {R : B → ℕ → Memory → Type 0} → After (λ a n M. ⊥) f R
@@ -133,14 +133,14 @@ module _ (G : Given) where
 
   -- an option, refused or there
   pub option_then : {A B : Type 0} {n : ℕ} {M : Memory} {f : A → Lower B} {R : B → ℕ → Memory → Type 0} (x : ℕ) (o : Option A)
-      → ((a : A) → o ≡ some a → From n M (f a) R) → From n M (or_refuse x o >>= f) R
-  option_then x none k = refused_first x never
-  option_then x (some a) k = ◌then◌ (got x a) (at_it (k a refl))
+      → ((a : A) → o ≡ Some a → From n M (f a) R) → From n M (or_refuse x o >>= f) R
+  option_then x None k = refused_first x never
+  option_then x (Some a) k = ◌then◌ (got x a) (at_it (k a refl))
 
   -- what it says of an accepted lowering
   pub outcome : {A : Type 0} {n : ℕ} {M : Memory} {m : Lower A} {Q : A → ℕ → Memory → Type 0} → From n M m Q → (h : At) (t : ℕ) (a : A) (c : Counters) (o : Out)
       → m h (record { storage = n; temporary = t }) ≡ done a c o → Led M Q a c.storage o.instructions
   outcome {n} {M} {m} {Q} p h t a c o e = rw e at (p.leads h t)
 
-  pub ran : {A : Type 0} {n : ℕ} {M : Memory} {a : A} {is : List Instruction} {Q : A → ℕ → Memory → Type 0} → Led M Q a n is → run G is M ≡ some (effects G (kinds is) M)
+  pub ran : {A : Type 0} {n : ℕ} {M : Memory} {a : A} {is : List Instruction} {Q : A → ℕ → Memory → Type 0} → Led M Q a n is → run G is M ≡ Some (effects G (kinds is) M)
   ran {M = M} {is = is} l = run_effects G is M l.means

@@ -2,7 +2,8 @@
 use Prim.Native.Nat.{ℕ, zero, suc}
 use mathlib.Core.Bool.{Bool, true, false, ◌&&◌, ◌||◌, not}
 use mathlib.Core.List.{List, [], ◌∷◌}
-use mathlib.Core.Option.{some, none-ne-some}
+use Rattle.std.specs.Prelude.{Some}
+use Rattle.std.proofs.lemmas.Option.{none-some}
 use mathlib.Core.Path.{◌≡◌}
 use lib.Dec.{eqb, ltb}
 use borrow.Author.Tests.{eqb-true, eq-eqb, ltb-true}
@@ -19,9 +20,9 @@ abbrev pub all_placed : Tables → List PlacedLine → Bool
 all_placed T [] = true
 all_placed T (p ∷ ps) = is_placed T p && all_placed T ps
 
-pub placed_by_test : (T : Tables) (ps : List PlacedLine) → all_placed T ps ≡ true → (k : ℕ) (p : PlacedLine) → nth ps k ≡ some p → Placed T p
+pub placed_by_test : (T : Tables) (ps : List PlacedLine) → all_placed T ps ≡ true → (k : ℕ) (p : PlacedLine) → nth ps k ≡ Some p → Placed T p
 unfolding nth
-placed_by_test T [] t k p e = absurd (none-ne-some p e)
+placed_by_test T [] t k p e = absurd (none-some p e)
 placed_by_test T (q ∷ qs) t zero p e =
     let b = both (is_placed T q) (all_placed T qs) t in
     let c = both (ltb q.storage (length T.storages)) _ b.0 in

@@ -2,7 +2,7 @@
 use Prim.Native.String.{String}
 use mathlib.Core.Bool.{true, false, ◌&&◌}
 use mathlib.Core.List.{List, [], ◌∷◌, ◌++◌}
-use mathlib.Core.Option.{Option, none, some}
+use Rattle.std.specs.Prelude.{Option, None, Some}
 use mathlib.Core.Path.{◌≡◌, refl}
 use Rattle.spec.specs.Text.{text}
 use Rattle.spec.specs.Readable.{root}
@@ -15,11 +15,11 @@ use Rattle.spec.proofs.RunEnds.{reading_back, left_by}
 
 -- the meaning, where the text is read, rightly typed and in order
 abbrev meaning : Memory → Read → Option Data
-meaning M (refused n l) = none
-meaning M (accepted T) = elim (typed T (root T) && in_order T M (root T)) [ true ↦ eval T given M (root T) | false ↦ none ]
+meaning M (refused n l) = None
+meaning M (accepted T) = elim (typed T (root T) && in_order T M (root T)) [ true ↦ eval T given M (root T) | false ↦ None ]
 
 abbrev Shows : List String → Memory → Data → Type 0
-Shows ticket M d = (meaning M (read_ticket (text ticket)) ≡ some d) × (left_by ticket M ≡ some d)
+Shows ticket M d = (meaning M (read_ticket (text ticket)) ≡ Some d) × (left_by ticket M ≡ Some d)
 
 -- two records of a byte and a word, at bytes 0 and 8, and the bytes that each begins with; a static at byte 4
 abbrev records : List String

@@ -2,7 +2,8 @@
 use Prim.Native.Nat.{ℕ, zero, suc, ◌/◌, ◌%◌, ◌^◌, ◌≤◌, ◌<◌}
 use mathlib.Core.Bool.{Bool, true}
 use mathlib.Core.List.{List, [], ◌∷◌}
-use mathlib.Core.Option.{Option, none, some, none-ne-some, some-injective as of_some}
+use Rattle.std.specs.Prelude.{Option, None, Some}
+use Rattle.std.proofs.lemmas.Option.{none-some, same_Some}
 use mathlib.Core.Path.{◌≡◌, refl, sym, ap, ◌∙◌}
 use native.Mathlib.Omega.{arith}
 use native.Mathlib.Nat.{le_trans}
@@ -36,42 +37,42 @@ use Rattle.spec.proofs.RunAfters.{number_after, retyped}
 -- ---------------------------------------------------------------- the meaning's own chaining of options
 
 abbrev chained : {A B : Type 0} → Option A → (A → Option B) → Option B
-chained none f = none
-chained (some a) f = f a
+chained None f = None
+chained (Some a) f = f a
 
 abbrev mapped : {A B : Type 0} → (A → B) → Option A → Option B
-mapped f none = none
-mapped f (some a) = some (f a)
+mapped f None = None
+mapped f (Some a) = Some (f a)
 
 pub record Found {A B : Type 0} (x : Option A) (f : A → Option B) (b : B) : Type 0 where
   pub it : A
-  pub is : x ≡ some it
-  pub goes : f it ≡ some b
+  pub is : x ≡ Some it
+  pub goes : f it ≡ Some b
 
-pub found : {A B : Type 0} (x : Option A) (f : A → Option B) {b : B} → chained x f ≡ some b → Found x f b
-found none f {b} e = absurd (none-ne-some b e)
-found (some a) f e = record { it = a; is = refl; goes = e }
+pub found : {A B : Type 0} (x : Option A) (f : A → Option B) {b : B} → chained x f ≡ Some b → Found x f b
+found None f {b} e = absurd (none-some b e)
+found (Some a) f e = record { it = a; is = refl; goes = e }
 
 pub record Mapped {A B : Type 0} (f : A → B) (x : Option A) (b : B) : Type 0 where
   pub it : A
-  pub is : x ≡ some it
+  pub is : x ≡ Some it
   pub same : f it ≡ b
 
-pub found_map : {A B : Type 0} (f : A → B) (x : Option A) {b : B} → mapped f x ≡ some b → Mapped f x b
-found_map f none {b} e = absurd (none-ne-some b e)
-found_map f (some a) e = record { it = a; is = refl; same = cc }
+pub found_map : {A B : Type 0} (f : A → B) (x : Option A) {b : B} → mapped f x ≡ Some b → Mapped f x b
+found_map f None {b} e = absurd (none-some b e)
+found_map f (Some a) e = record { it = a; is = refl; same = cc }
 
 module _ (G : Given) (T : Tables) (R : TypesRight T) (N : NeedsOf T) (n₀ : ℕ) (older : length T.storages ≤ n₀) (M₀ : Memory) (P : Proper M₀) where
   -- lowered later, with the older storages as they were at the start, it gives what it means at the start
   abbrev pub Lowers : Expr → Type 0
-  Lowers e = (d : Data) → eval T G M₀ e ≡ some d → (n : ℕ) (M : Memory) → n₀ ≤ n → Agree n₀ M₀ M → From G n M (lower_expression T e) (Gives T n M (type_of e) d)
+  Lowers e = (d : Data) → eval T G M₀ e ≡ Some d → (n : ℕ) (M : Memory) → n₀ ≤ n → Agree n₀ M₀ M → From G n M (lower_expression T e) (Gives T n M (type_of e) d)
 
   -- ------------------------------------------------------------ leaves
 
   pub boolean_case : (h : At) (b : ℕ) → typed T (boolean h b) ≡ true → bools_in_range (boolean h b) ≡ true → Lowers (boolean h b)
   unfolding typed bools_in_range eval lower_expression
   boolean_case h b t s d v n M z a =
-      let k : flag b ≡ d = of_some _ _ v in
+      let k : flag b ≡ d = same_Some _ _ v in
       let e : h.ty ≡ 0 = eqb-true h.ty 0 t in
       let l : b < 2 = omega (arith, leb-true b 1 s) in
       rw (← k) (ending G (purely G _) (here (rw e (has_bool R.bool_first l)) (of_bit (record { holds = λ M' q. refl }))))
@@ -95,7 +96,7 @@ module _ (G : Given) (T : Tables) (R : TypesRight T) (N : NeedsOf T) (n₀ : ℕ
   unfolding typed in_order eval lower_expression
   integer_case h v t o d e n M z a =
       let B = bits_of_test T R h.ty t in
-      rw (← by_width T B (of_some _ _ e)) (owned G h (integer_step v B (fits_width h.ty v B o) n M))
+      rw (← by_width T B (same_Some _ _ e)) (owned G h (integer_step v B (fits_width h.ty v B o) n M))
 
   zeros : (M : Memory) → operands M (immediate 0 ∷ immediate 0 ∷ []) ≡ bytes_of 2 0
   unfolding bytes_of
@@ -104,7 +105,7 @@ module _ (G : Given) (T : Tables) (R : TypesRight T) (N : NeedsOf T) (n₀ : ℕ
   pub null_case : (h : At) → typed T (null_pointer h) ≡ true → Lowers (null_pointer h)
   unfolding typed eval lower_expression
   null_case h t d v n M z a =
-      let k : number 2 0 ≡ d = of_some _ _ v in
+      let k : number 2 0 ≡ d = same_Some _ _ v in
       let e : h.ty ≡ 1 = eqb-true h.ty 1 t in
       rw (← k) (ending G (purely G _) (here (rw e (has_pointer T R 0 (omega arith))) (of_bytes (record { holds = λ M' q. zeros M' }))))
 
@@ -112,22 +113,22 @@ module _ (G : Given) (T : Tables) (R : TypesRight T) (N : NeedsOf T) (n₀ : ℕ
   unfolding typed eval lower_expression
   static_case h k o t d v n M z a =
       let s = found (nth T.statics k) _ v in
-      rw (← of_some _ _ s.goes) (owned G h (retyped G T (sym (eqb-true h.ty 1 t)) (static_step G T R k o s.it s.is)))
+      rw (← same_Some _ _ s.goes) (owned G h (retyped G T (sym (eqb-true h.ty 1 t)) (static_step G T R k o s.it s.is)))
 
   pub function_case : (h : At) (f : ℕ) → typed T (function_address h f) ≡ true → Lowers (function_address h f)
   unfolding typed eval lower_expression
-  function_case h f t d v n M z a = rw (← of_some _ _ v) (owned G h (retyped G T (sym (eqb-true h.ty 1 t)) (function_step G T R f)))
+  function_case h f t d v n M z a = rw (← same_Some _ _ v) (owned G h (retyped G T (sym (eqb-true h.ty 1 t)) (function_step G T R f)))
 
   pub address_case : (h : At) (p : Place) → typed T (address_of h p) ≡ true → Lowers (address_of h p)
   unfolding typed eval lower_expression
   address_case h p t d v n M z a =
       let s = found (based T p) _ v in
-      rw (← of_some _ _ s.goes) (owned G h (retyped G T (sym (eqb-true h.ty 1 t)) (address_of_step G T R N p s.it s.is)))
+      rw (← same_Some _ _ s.goes) (owned G h (retyped G T (sym (eqb-true h.ty 1 t)) (address_of_step G T R N p s.it s.is)))
 
   -- the meaning's own test of what is read
   abbrev fits_by : ℕ → Option Data → Bool
-  fits_by ty none = true
-  fits_by ty (some d) = fits T type_depth_limit ty d
+  fits_by ty None = true
+  fits_by ty (Some d) = fits T type_depth_limit ty d
 
   pub read_case : (h : At) (p : Place) → in_order T M₀ (read h p) ≡ true → Lowers (read h p)
   unfolding in_order eval lower_expression
@@ -144,7 +145,7 @@ module _ (G : Given) (T : Tables) (R : TypesRight T) (N : NeedsOf T) (n₀ : ℕ
       let t₂ = both _ _ t₁.0 in
       let B = bits_of_test T R h.ty t₂.0 in
       let s = found (eval T G M₀ e) _ v in
-      rw (← by_width T B (of_some _ _ s.goes))
+      rw (← by_width T B (same_Some _ _ s.goes))
       (◌then◌ G (ih t₁.1 s.it s.is n M z a) (number_after G T (eqb-true _ _ t₂.1) B (λ bs n₁ M₁ l₁ a₁ w₁.
       owned G h (rebased G l₁ a₁ (unary_step G T h.ty B w₁ op h.ty)))))
 

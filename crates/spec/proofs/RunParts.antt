@@ -2,7 +2,8 @@
 use Prim.Native.Nat.{ℕ, zero, suc, ◌+◌}
 use mathlib.Core.Bool.{Bool, true, false, ◌&&◌}
 use mathlib.Core.List.{List, [], ◌∷◌}
-use mathlib.Core.Option.{Option, none, some, none-ne-some}
+use Rattle.std.specs.Prelude.{Option, None, Some}
+use Rattle.std.proofs.lemmas.Option.{none-some}
 use mathlib.Core.Path.{◌≡◌, refl, sym, ap, ◌∙◌}
 use native.Mathlib.Omega.{arith}
 use native.Mathlib.Nat.{le_refl}
@@ -42,11 +43,11 @@ abbrev pub types_of : Exprs → List ℕ
 types_of no_exprs = []
 types_of (e ∷ᵉ es) = type_of e ∷ types_of es
 
-nth_replicate : (n t i : ℕ) → nth (replicate n t) i ≡ elim (ltb i n) [ true ↦ some t | false ↦ none ]
+nth_replicate : (n t i : ℕ) → nth (replicate n t) i ≡ elim (ltb i n) [ true ↦ Some t | false ↦ None ]
 unfolding nth
 nth_replicate zero t i = rw (le-ltb i 0 (omega arith)) refl
 nth_replicate (suc n) t zero = rw (lt-ltb 0 (suc n) (omega arith)) refl
-nth_replicate (suc n) t (suc i) = nth_replicate n t i ∙ ap (λ (b : Bool). elim b [ true ↦ some t | false ↦ none ]) (same (ltb i n) refl)
+nth_replicate (suc n) t (suc i) = nth_replicate n t i ∙ ap (λ (b : Bool). elim b [ true ↦ Some t | false ↦ None ]) (same (ltb i n) refl)
   where
     same : (b : Bool) → ltb i n ≡ b → b ≡ ltb (suc i) (suc n)
     same true e = sym (lt-ltb (suc i) (suc n) (omega (arith, ltb-true i n e)))
@@ -66,16 +67,16 @@ nth_part t_opaque xs i = refl
 
 -- the meaning's own test of a type
 abbrev pub is_type : Option ℕ → ℕ → Bool
-is_type none ty = false
-is_type (some t) ty = eqb t ty
+is_type None ty = false
+is_type (Some t) ty = eqb t ty
 
-pub type_is : (o : Option ℕ) (t : ℕ) → is_type o t ≡ true → o ≡ some t
-type_is none t e = cc
-type_is (some s) t e = ap some (eqb-true s t e)
+pub type_is : (o : Option ℕ) (t : ℕ) → is_type o t ≡ true → o ≡ Some t
+type_is None t e = cc
+type_is (Some s) t e = ap Some (eqb-true s t e)
 
-ended : (o : Option ℕ) → elim o [ none ↦ true | some t ↦ false ] ≡ true → o ≡ none
-ended none e = refl
-ended (some t) e = cc
+ended : (o : Option ℕ) → elim o [ None ↦ true | Some t ↦ false ] ≡ true → o ≡ None
+ended None e = refl
+ended (Some t) e = cc
 
 module _ (T : Tables) where
   abbrev pub parts_of : ℕ → List ℕ
@@ -122,16 +123,16 @@ module _ (T : Tables) where
   unfolding parts_typed nth
   all_typed no_exprs ty i ts k h = go ts (sym (ended (part_type T ty i) h) ∙ rw (let z : i + 0 ≡ i = omega arith in z) at (k 0))
     where
-      go : (ts : List ℕ) → none ≡ nth ts 0 → [] ≡ ts
+      go : (ts : List ℕ) → None ≡ nth ts 0 → [] ≡ ts
       go [] q = refl
-      go (t ∷ ts) q = absurd (none-ne-some t q)
+      go (t ∷ ts) q = absurd (none-some t q)
   all_typed (e ∷ᵉ es) ty i ts k h =
       let p = part_typed e es ty i h in
       go ts (type_is _ (type_of e) p.0) (rw (let z : i + 0 ≡ i = omega arith in z) at (k 0)) k (λ us l. all_typed es ty (suc i) us l p.2)
     where
-      go : (ts : List ℕ) → part_type T ty i ≡ some (type_of e) → part_type T ty i ≡ nth ts 0 → ((j : ℕ) → part_type T ty (i + j) ≡ nth ts j)
+      go : (ts : List ℕ) → part_type T ty i ≡ Some (type_of e) → part_type T ty i ≡ nth ts 0 → ((j : ℕ) → part_type T ty (i + j) ≡ nth ts j)
           → ((us : List ℕ) → ((j : ℕ) → part_type T ty (suc i + j) ≡ nth us j) → types_of es ≡ us) → type_of e ∷ types_of es ≡ ts
-      go [] p q k ih = absurd (none-ne-some (type_of e) (sym q ∙ p))
+      go [] p q k ih = absurd (none-some (type_of e) (sym q ∙ p))
       go (t ∷ ts) p q k ih =
           let z : type_of e ≡ t = cc in
           rw (z, ih ts (λ j. ap (part_type T ty) (let y : suc i + j ≡ i + suc j = omega arith in y) ∙ k (suc j))) refl
@@ -140,7 +141,7 @@ module _ (T : Tables) where
 
 module _ (G : Given) (T : Tables) where
   found_part : {n t : ℕ} {M : Memory} {d : Data} {vs : Values} {ds : Datas} (ts : List ℕ) (i : ℕ) → DenoteAll n M vs ds → HasAll T ts ds
-      → nth ts i ≡ some t → part_at ds i ≡ some d → From G n M (or_refuse 24 (nth_value vs i)) (Gives T n M t d)
+      → nth ts i ≡ Some t → part_at ds i ≡ Some d → From G n M (or_refuse 24 (nth_value vs i)) (Gives T n M t d)
   unfolding nth part_at nth_value
   found_part ts i of_none qs e p = missing G 24
   found_part {n} {t} {M} {d} ts zero (of_more {v = v} {t = u} {d = c} k r rs) (has_more q qs) e p =
@@ -150,7 +151,7 @@ module _ (G : Given) (T : Tables) where
   found_part ts (suc i) (of_more k r rs) (has_more {ts = us} q qs) e p = found_part us i rs qs e p
 
   pub extract_step : {n t ty : ℕ} {M : Memory} {d e : Data} (v : Value) (i : ℕ) → Denotes n M (value_repr v) d → Has T ty d
-      → nth (parts_of T ty) i ≡ some t → part_at (parts_in d) i ≡ some e → From G n M (lower_extract T v i) (Gives T n M t e)
+      → nth (parts_of T ty) i ≡ Some t → part_at (parts_in d) i ≡ Some e → From G n M (lower_extract T v i) (Gives T n M t e)
   unfolding lower_extract
   extract_step (value t unit) i of_unit q e p = refused_first G 24 (never G)
   extract_step (value t (bit_value b)) i (of_bit f) q e p = refused_first G 24 (never G)
@@ -159,8 +160,8 @@ module _ (G : Given) (T : Tables) where
 
   -- the meaning's own choice of a part to replace
   abbrev cons_part : ℕ → Data → Option Datas → Option Datas
-  cons_part t d none = none
-  cons_part t d (some ds) = some (part t d ds)
+  cons_part t d None = None
+  cons_part t d (Some ds) = Some (part t d ds)
 
   -- a part replaced, in the values and in the data alike
   pub record Replaced (n : ℕ) (M : Memory) (ts : List ℕ) (us : Values) (ds : Datas) : Type 0 where
@@ -168,10 +169,10 @@ module _ (G : Given) (T : Tables) where
     pub has : HasAll T ts ds
 
   set_denotes : {n u : ℕ} {M : Memory} {vs : Values} {ds : Datas} {e : Data} (w : Value) (ts : List ℕ) (i : ℕ) → DenoteAll n M vs ds → HasAll T ts ds
-      → nth ts i ≡ some u → Has T u e → value_type w ≡ u → Denotes n M (value_repr w) e
-      → (us : Values) → set_value vs i w ≡ some us → (es : Datas) → set_part ds i u e ≡ some es → Replaced n M ts us es
+      → nth ts i ≡ Some u → Has T u e → value_type w ≡ u → Denotes n M (value_repr w) e
+      → (us : Values) → set_value vs i w ≡ Some us → (es : Datas) → set_part ds i u e ≡ Some es → Replaced n M ts us es
   unfolding nth set_value set_part
-  set_denotes w ts i of_none qs k p x y us a es b = absurd (none-ne-some us a)
+  set_denotes w ts i of_none qs k p x y us a es b = absurd (none-some us a)
   set_denotes {u = u} {e = e} w ts zero (of_more {vs = vs} {ds = ds} r s ss) (has_more {t = t} q qs) k p x y us a es b =
       let a' : us ≡ w ∷ᵛ vs = cc in
       let b' : es ≡ part u e ds = cc in
@@ -180,18 +181,18 @@ module _ (G : Given) (T : Tables) where
   set_denotes {n} {u} {M} {e = e} w ts (suc i) (of_more {v = v} {vs = vs} {t = t} {d = d} {ds = ds} r s ss) (has_more {ts = ts'} q qs) k p x y us a es b =
       go (set_value vs i w) (set_part ds i u e) a b (λ ws l fs m. set_denotes w ts' i ss qs k p x y ws l fs m)
     where
-      go : (o : Option Values) (f : Option Datas) → elim o [ none ↦ none | some ws ↦ some (v ∷ᵛ ws) ] ≡ some us → cons_part t d f ≡ some es
-          → ((ws : Values) → o ≡ some ws → (fs : Datas) → f ≡ some fs → Replaced n M ts' ws fs) → Replaced n M (t ∷ ts') us es
-      go none f l m ih = absurd (none-ne-some us l)
-      go (some ws) none l m ih = absurd (none-ne-some es m)
-      go (some ws) (some fs) l m ih =
+      go : (o : Option Values) (f : Option Datas) → elim o [ None ↦ None | Some ws ↦ Some (v ∷ᵛ ws) ] ≡ Some us → cons_part t d f ≡ Some es
+          → ((ws : Values) → o ≡ Some ws → (fs : Datas) → f ≡ Some fs → Replaced n M ts' ws fs) → Replaced n M (t ∷ ts') us es
+      go None f l m ih = absurd (none-some us l)
+      go (Some ws) None l m ih = absurd (none-some es m)
+      go (Some ws) (Some fs) l m ih =
           let l' : us ≡ v ∷ᵛ ws = cc in
           let m' : es ≡ part t d fs = cc in
           let z = ih ws refl fs refl in
           rw (l', m') (record { denote = of_more r s z.denote; has = has_more q z.has })
 
   pub insert_step : {n u ty : ℕ} {M : Memory} {d e : Data} (v w : Value) (i : ℕ) (es : Datas) → Denotes n M (value_repr v) d → Has T ty d
-      → nth (parts_of T ty) i ≡ some u → Has T u e → value_type w ≡ u → Denotes n M (value_repr w) e → set_part (parts_in d) i u e ≡ some es
+      → nth (parts_of T ty) i ≡ Some u → Has T u e → value_type w ≡ u → Denotes n M (value_repr w) e → set_part (parts_in d) i u e ≡ Some es
       → From G n M (lower_insert T v i w ty) (Gives T n M ty (parts es))
   unfolding lower_insert
   insert_step (value t unit) w i es of_unit q k p x y b = refused_first G 24 (never G)

@@ -2,7 +2,8 @@
 use Prim.Native.Nat.{ℕ, ◌≤◌, ◌<◌}
 use mathlib.Core.Bool.{Bool, true, false}
 use mathlib.Core.List.{List, [], ◌++◌}
-use mathlib.Core.Option.{Option, none, some, none-ne-some}
+use Rattle.std.specs.Prelude.{Option, None, Some}
+use Rattle.std.proofs.lemmas.Option.{none-some}
 use mathlib.Core.Path.{◌≡◌, refl, sym, ap₂, ◌∙◌}
 use native.Mathlib.Omega.{arith}
 use native.Mathlib.Nat.{le_trans}
@@ -32,16 +33,16 @@ use Rattle.spec.specs.RunNeeds.{Placed, NeedsOf}
 -- ---------------------------------------------------------------- steps that only answer
 
 abbrev answered : {A : Type 0} → Outcome A → Option A
-answered (refused n l) = none
-answered (done a c o) = some a
+answered (refused n l) = None
+answered (done a c o) = Some a
 
 abbrev start : Counters
 start = record { storage = 0; temporary = 0 }
 
 -- the answer x, which has Q, and nothing else
 abbrev QuietAs : {A : Type 0} → (A → Type 0) → Option A → Counters → Outcome A → Type 0
-QuietAs Q x c (refused n l) = x ≡ none
-QuietAs Q x c (done a c' o) = (x ≡ some a) × (c' ≡ c) × (o.instructions ≡ []) × Q a
+QuietAs Q x c (refused n l) = x ≡ None
+QuietAs Q x c (done a c' o) = (x ≡ Some a) × (c' ≡ c) × (o.instructions ≡ []) × Q a
 
 -- wherever it is asked
 pub record Quiet {A : Type 0} (Q : A → Type 0) (m : Lower A) : Type 0 where
@@ -58,8 +59,8 @@ answered_prepend o (done a c p) = refl
 quiet_bound : {A B : Type 0} (P : A → Type 0) (Q : B → Type 0) (f : A → Lower B) → ((a : A) → P a → Quiet Q (f a)) → (h : At) (c : Counters) (y x : Outcome A)
     → QuietAs P (answered y) start y → QuietAs P (answered y) c x → QuietAs Q (answered (bind_to f nowhere y)) c (bind_to f h x)
 quiet_bound P Q f k h c (refused n l) (refused n' l') p q = refl
-quiet_bound P Q f k h c (refused n l) (done a c' o) p q = absurd (none-ne-some a q.0)
-quiet_bound P Q f k h c (done b d i) (refused n l) p q = absurd (none-ne-some b (sym q))
+quiet_bound P Q f k h c (refused n l) (done a c' o) p q = absurd (none-some a q.0)
+quiet_bound P Q f k h c (done b d i) (refused n l) p q = absurd (none-some b (sym q))
 quiet_bound P Q f k h c (done b d i) (done a c' o) p q =
     let e : b ≡ a = cc in
     rw (answered_prepend i (f b nowhere d), p.1, e) (appended Q o _ c (f a h c') q.2 (rw q.1 ((k a q.3).is h c)))
@@ -75,10 +76,10 @@ quiet_next {P = P} {Q = Q} {m = m} {f = f} p k = record { is = λ h c. quiet_bou
 quiet_pure : {A : Type 0} {Q : A → Type 0} (a : A) → Q a → Quiet Q (pure a)
 quiet_pure a q = record { is = λ h c. (refl, refl, refl, q) }
 
-quiet_option : {A : Type 0} (n : ℕ) (x : Option A) → Quiet (λ a. x ≡ some a) (or_refuse n x)
+quiet_option : {A : Type 0} (n : ℕ) (x : Option A) → Quiet (λ a. x ≡ Some a) (or_refuse n x)
 unfolding or_refuse
-quiet_option n none = record { is = λ h c. refl }
-quiet_option n (some a) = quiet_pure a refl
+quiet_option n None = record { is = λ h c. refl }
+quiet_option n (Some a) = quiet_pure a refl
 
 quiet_require : (n : ℕ) (b : Bool) → Quiet (λ _. b ≡ true) (require n b)
 unfolding require
@@ -143,19 +144,19 @@ module _ (T : Tables) (N : NeedsOf T) where
 
 -- ---------------------------------------------------------------- the answer, as a step and as a fact
 
-answer_has : {A : Type 0} (Q : A → Type 0) {a : A} (x : Outcome A) (c : Counters) → QuietAs Q (answered x) c x → answered x ≡ some a → Q a
-answer_has Q {a} (refused n l) c q e = absurd (none-ne-some a e)
+answer_has : {A : Type 0} (Q : A → Type 0) {a : A} (x : Outcome A) (c : Counters) → QuietAs Q (answered x) c x → answered x ≡ Some a → Q a
+answer_has Q {a} (refused n l) c q e = absurd (none-some a e)
 answer_has Q {a} (done b d o) c q e = let z : b ≡ a = cc in rw z at q.3
 
 module _ (G : Given) where
-  only : {A : Type 0} (Q : A → Type 0) (v : Option A) (n t : ℕ) (M : Memory) (a : A) (x : Outcome A) → v ≡ some a
+  only : {A : Type 0} (Q : A → Type 0) (v : Option A) (n t : ℕ) (M : Memory) (a : A) (x : Outcome A) → v ≡ Some a
       → QuietAs Q v (record { storage = n; temporary = t }) x → Ok G M (Is a n M) x
   only Q v n t M a (refused k l) e q = tt
   only Q v n t M a (done b c o) e q =
       let e₁ : b ≡ a = cc in
       rw (e₁, q.1, q.2) (record { means = tt; left = it })
 
-  pub quiet_from : {A : Type 0} {Q : A → Type 0} {n : ℕ} {M : Memory} {m : Lower A} (a : A) → Quiet Q m → answered (m nowhere start) ≡ some a → From G n M m (Is a n M)
+  pub quiet_from : {A : Type 0} {Q : A → Type 0} {n : ℕ} {M : Memory} {m : Lower A} (a : A) → Quiet Q m → answered (m nowhere start) ≡ Some a → From G n M m (Is a n M)
   quiet_from {Q = Q} {n = n} {M = M} {m = m} a p e =
       record { leads = λ h t. only Q _ n t M a (m h (record { storage = n; temporary = t })) e (p.is h (record { storage = n; temporary = t })) }
 
@@ -184,14 +185,14 @@ module _ (G : Given) (T : Tables) (R : TypesRight T) (N : NeedsOf T) (M₀ : Mem
       (stands_later T l.storage s a (stored_stands M₀ l.storage P T R type_depth_limit ty l.offset f)))
 
   -- THE STEP of a read: what the place holds in the memory at the start
-  pub read_step : {n₀ : ℕ} (p : Place) (ty : ℕ) (d : Data) → length T.storages ≤ n₀ → read_data T M₀ p ty ≡ some d → fits T type_depth_limit ty d ≡ true
+  pub read_step : {n₀ : ℕ} (p : Place) (ty : ℕ) (d : Data) → length T.storages ≤ n₀ → read_data T M₀ p ty ≡ Some d → fits T type_depth_limit ty d ≡ true
       → (n : ℕ) (M : Memory) → n₀ ≤ n → Agree n₀ M₀ M → From G n M (lower_read T p ty) (Gives T n M ty d)
   unfolding lower_read read_data located
   read_step {n₀} p ty d h e f n M z a = go (located T p ty) refl
     where
       go : (x : Option Location) → located T p ty ≡ x → From G n M (lower_read T p ty) (Gives T n M ty d)
-      go none q = absurd (none-ne-some d (rw q at e))
-      go (some l) q =
+      go None q = absurd (none-some d (rw q at e))
+      go (Some l) q =
           let r : Resolved T ty l = answer_has (Resolved T ty) (resolve_place T p ty nowhere start) start ((quiet_place T N p ty).is nowhere start) q in
           ◌then◌ G (quiet_from G l (quiet_place T N p ty) q) (at_it G (by l.is_bit refl r))
         where

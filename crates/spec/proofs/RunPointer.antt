@@ -2,7 +2,7 @@
 use Prim.Native.Nat.{ℕ, zero, suc, ◌+◌, ◌/◌, ◌%◌, ◌≤◌}
 use mathlib.Core.Bool.{Bool, true, false, not}
 use mathlib.Core.List.{List, [], ◌∷◌}
-use mathlib.Core.Option.{some}
+use Rattle.std.specs.Prelude.{Some}
 use mathlib.Core.Path.{◌≡◌, refl, sym, ap, ◌∙◌}
 use native.Mathlib.Omega.{arith}
 use native.Mathlib.Nat.{le_refl, le_trans}
@@ -98,12 +98,12 @@ module _ (G : Given) (T : Tables) (R : TypesRight T) where
       (length_bytes_of 2 p) (length_bytes_of 2 a) (λ _. refl)))))))))))))))))
 
   -- the static's number alone decides the storage
-  pub static_step : {n : ℕ} {M : Memory} (k o : ℕ) (p : PlacedLine) → nth T.statics k ≡ some p
+  pub static_step : {n : ℕ} {M : Memory} (k o : ℕ) (p : PlacedLine) → nth T.statics k ≡ Some p
       → From G n M (lower_static_address T k o) (Gives T n M 1 (number 2 ((G.base p.storage + o) % 65536)))
   unfolding lower_static_address
   static_step k o p e = rw e (◌then◌ G (got G 20 p) (at_it G (address_step p.storage o (is_one p.bit))))
 
-  pub address_of_step : NeedsOf T → {n : ℕ} {M : Memory} (p : Place) (b : Base) → based T p ≡ some b
+  pub address_of_step : NeedsOf T → {n : ℕ} {M : Memory} (p : Place) (b : Base) → based T p ≡ Some b
       → From G n M (lower_address_of T p) (Gives T n M 1 (number 2 ((G.base b.storage + b.offset) % 65536)))
   unfolding lower_address_of based
   address_of_step N p b e = ◌then◌ G (quiet_from G b (quiet_base T N p) e) (at_it G (address_step _ _ _))

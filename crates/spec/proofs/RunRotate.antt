@@ -2,7 +2,7 @@
 use Prim.Native.Nat.{ℕ, zero, suc, ◌-◌, ◌%◌, ◌≤◌, ◌<◌}
 use mathlib.Core.Bool.{Bool, true, false}
 use mathlib.Core.List.{List, [], ◌∷◌}
-use mathlib.Core.Option.{some}
+use Rattle.std.specs.Prelude.{Some}
 use mathlib.Core.Path.{◌≡◌, refl, sym, ap, ◌∙◌}
 use native.Mathlib.Omega.{arith}
 use native.Mathlib.Decide.{ℕ_discrete}
@@ -117,7 +117,7 @@ lowest_is {M} b (immediate y ∷ rs) h e = heads (h.holds M agree_refl)
 lowest_is {M} b (stored s ∷ rs) h e = absurd (let z : ◌≡◌ {A = ℕ} 0 1 = cc in omega arith)
 
 -- the rotates are the shifts of their direction
-pub turned_shift : (op : ShiftOp) (dir : RotateDirection) (a b : ℕ) → rotate_direction op ≡ some dir → turned dir a (b % 8) ≡ shift_op op 8 a b
+pub turned_shift : (op : ShiftOp) (dir : RotateDirection) (a b : ℕ) → rotate_direction op ≡ Some dir → turned dir a (b % 8) ≡ shift_op op 8 a b
 unfolding rotate_direction shift_op irotl irotr
 turned_shift lir.shift_left dir a b e = cc
 turned_shift lir.shift_right_unsigned dir a b e = cc

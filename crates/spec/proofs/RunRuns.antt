@@ -2,7 +2,7 @@
 use Prim.Native.Nat.{ℕ, zero, suc}
 use mathlib.Core.Bool.{true}
 use mathlib.Core.List.{List, [], ◌∷◌, ◌++◌, map}
-use mathlib.Core.Option.{some}
+use Rattle.std.specs.Prelude.{Some}
 use mathlib.Core.Path.{◌≡◌, refl, ap}
 use Rattle.spec.specs.Hir.{At}
 use Rattle.spec.specs.Lir.{ByteStorage, ByteOperand, stored, RotateDirection, InstructionKind, Instruction}
@@ -32,11 +32,11 @@ module _ (G : Given) where
   Defined [] M = Unit
   Defined (k ∷ ks) M = (defined k M ≡ true) × Defined ks (effect G k M)
 
-  steps : (i : Instruction) (M : Memory) → defined i.kind M ≡ true → step G i M ≡ some (effect G i.kind M)
+  steps : (i : Instruction) (M : Memory) → defined i.kind M ≡ true → step G i M ≡ Some (effect G i.kind M)
   unfolding step
   steps i M e = rw (e, step)
 
-  pub run_effects : (is : List Instruction) (M : Memory) → Defined (kinds is) M → run G is M ≡ some (effects (kinds is) M)
+  pub run_effects : (is : List Instruction) (M : Memory) → Defined (kinds is) M → run G is M ≡ Some (effects (kinds is) M)
   unfolding run
   run_effects [] M d = refl
   run_effects (i ∷ is) M d = rw (steps i M d.0, run) (run_effects is (effect G i.kind M) d.1)

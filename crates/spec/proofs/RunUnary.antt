@@ -1,7 +1,7 @@
 -- THE STEP of the five unary operators and of the ten comparisons of integers, at every width.
 use Prim.Native.Nat.{ℕ, suc, ◌^◌, ◌<◌}
 use mathlib.Core.List.{List, [], ◌∷◌}
-use mathlib.Core.Option.{some}
+use Rattle.std.specs.Prelude.{Some}
 use mathlib.Core.Path.{◌≡◌, refl, sym, ◌∙◌}
 use native.Mathlib.Omega.{arith}
 use lib.ListN.{length}
@@ -75,7 +75,7 @@ module _ (G : Given) (T : Tables) {w n a : ℕ} {M : Memory} {bs : List ByteOper
 -- ---------------------------------------------------------------- comparisons
 
 -- each operator's truth value is its instruction's
-compared_as : (op : CompareOp) (w a b : ℕ) → (o : lir.CompareOp) → compare_op op ≡ some o → compare_numeric op w a b ≡ some (machine.compare_op o w a b)
+compared_as : (op : CompareOp) (w a b : ℕ) → (o : lir.CompareOp) → compare_op op ≡ Some o → compare_numeric op w a b ≡ Some (machine.compare_op o w a b)
 unfolding compare_op compare_numeric machine.compare_op
 compared_as hir.equal w a b o e = let q : lir.equal ≡ o = cc in rw (← q) refl
 compared_as hir.not_equal w a b o e = let q : lir.not_equal ≡ o = cc in rw (← q) refl
@@ -102,15 +102,15 @@ module _ (G : Given) (T : Tables) (bool_0 : (type_at T 0).word ≡ t_bool) {w n 
   compared o = rw (number_is hl, number_is hr) (sets _ (has_bool bool_0 (compare_lt o w a b)))
 
   -- operands that denote a and b: the value denotes the comparison's truth value
-  pub compare_step : (op : CompareOp) (t₁ t₂ x : ℕ) → IsBits T t₁ w → compare_numeric op w a b ≡ some x
+  pub compare_step : (op : CompareOp) (t₁ t₂ x : ℕ) → IsBits T t₁ w → compare_numeric op w a b ≡ Some x
       → From G n M (lower_compare T op (value t₁ (bytes_value ls)) (value t₂ (bytes_value rs))) (Gives T n M 0 (flag x))
   unfolding lower_compare value_bytes defined
   compare_step op t₁ t₂ x B e =
       ◌then◌ G (width_is G T t₁ B) (at_it G (◌then◌ G (got G 24 ls) (at_it G (◌then◌ G (got G 24 rs) (at_it G (◌then◌ G (allocates_bit G _) (at_it G
       (option_then G 24 (compare_op op) (λ o q. ◌next◌ G (emitting_one G _ refl) (at_it G (ending G (purely G _) (same o q))))))))))))
     where
-      same : (o : lir.CompareOp) → compare_op op ≡ some o → Gives T n M 0 (flag x) (value 0 (bit_value (stored_bit n))) (suc n) (effects G (compare_bytes o w n ls rs ∷ []) M)
+      same : (o : lir.CompareOp) → compare_op op ≡ Some o → Gives T n M 0 (flag x) (value 0 (bit_value (stored_bit n))) (suc n) (effects G (compare_bytes o w n ls rs ∷ []) M)
       same o q =
-          let z : some x ≡ some (machine.compare_op o w a b) = sym e ∙ compared_as op w a b o q in
+          let z : Some x ≡ Some (machine.compare_op o w a b) = sym e ∙ compared_as op w a b o q in
           let y : x ≡ machine.compare_op o w a b = cc in
           rw y (compared o)

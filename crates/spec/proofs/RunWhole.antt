@@ -1,7 +1,8 @@
 -- The whole expression: an accepted, rightly typed expression, run, leaves older storages as they were and its meaning in the value's pieces.
 use Prim.Native.Nat.{ℕ, suc, ◌+◌, ◌≤◌}
 use mathlib.Core.Bool.{Bool, true, false, not, ◌||◌}
-use mathlib.Core.Option.{some, some-injective as of_some}
+use Rattle.std.specs.Prelude.{Some}
+use Rattle.std.proofs.lemmas.Option.{same_Some}
 use mathlib.Core.Path.{◌≡◌, refl, sym, ap, ◌∙◌}
 use native.Mathlib.Omega.{arith}
 use native.Mathlib.Nat.{le_trans}
@@ -89,7 +90,7 @@ module _ (G : Given) (T : Tables) (R : TypesRight T) (N : NeedsOf T) (n₀ : ℕ
       let w = found (eval T G M₀ c) _ u.goes in
       let ex : type_of x ≡ h.ty = eqb-true _ _ t₂.0 in
       let ey : type_of y ≡ h.ty = eqb-true _ _ t₂.1 in
-      rw (← of_some _ _ w.goes)
+      rw (← same_Some _ _ w.goes)
       (◌then◌ G (ix t₄.1 s.it s.is n M z a) (record {
         go = λ p n₁ M₁ k₁.
             ◌then◌ G (iy t₅.1 u.it u.is n₁ M₁ (le_trans z k₁.later) (agree_trans z a k₁.agree)) (record {
@@ -120,7 +121,7 @@ module _ (G : Given) (T : Tables) (R : TypesRight T) (N : NeedsOf T) (n₀ : ℕ
       let B = bits_of_test T R (type_of o) t₃.1 in
       let s = found (eval T G M₀ b) _ v in
       let u = found (eval T G M₀ o) _ s.goes in
-      rw (← of_some _ _ u.goes)
+      rw (← same_Some _ _ u.goes)
       (◌then◌ G (ib t₄.1 s.it s.is n M z a) (pointer_after G T R (eqb-true _ _ t₂.1) (λ ls n₁ M₁ l₁ a₁ w₁.
       ◌then◌ G (io t₅.1 u.it u.is n₁ M₁ (le_trans z l₁) (agree_trans z a a₁)) (number_after G T refl B (λ rs n₂ M₂ l₂ a₂ w₂.
       owned G h (rebased G (le_trans l₁ l₂) (agree_trans l₁ a₁ a₂) (retyped G T (sym (eqb-true h.ty 1 t₂.0))
@@ -129,7 +130,7 @@ module _ (G : Given) (T : Tables) (R : TypesRight T) (N : NeedsOf T) (n₀ : ℕ
   -- ------------------------------------------------------------ aggregates
 
   abbrev pub AllRightly : Exprs → Type 0
-  AllRightly es = (ds : Datas) → evals T G M₀ es ≡ some ds → (n : ℕ) (M : Memory) → n₀ ≤ n → Agree n₀ M₀ M
+  AllRightly es = (ds : Datas) → evals T G M₀ es ≡ Some ds → (n : ℕ) (M : Memory) → n₀ ≤ n → Agree n₀ M₀ M
       → From G n M (lower_expressions T es) (GivesAll T n M (types_of es) ds)
 
   pub aggregate_case : (h : At) (es : Exprs) → typed T (aggregate h es) ≡ true → (parts_typed T es h.ty 0 ≡ true → AllRightly es) → Rightly (aggregate h es)
@@ -142,7 +143,7 @@ module _ (G : Given) (T : Tables) (R : TypesRight T) (N : NeedsOf T) (n₀ : ℕ
 
   pub nothing_case : AllRightly no_exprs
   unfolding evals lower_expressions
-  nothing_case ds v n M z a = rw (← of_some _ _ v) (nothing_read G T)
+  nothing_case ds v n M z a = rw (← same_Some _ _ v) (nothing_read G T)
 
   pub more_case : (e : Expr) (es : Exprs) (ty i : ℕ) → parts_typed T (e ∷ᵉ es) ty i ≡ true
       → (typed T e ≡ true → Rightly e) → (parts_typed T es ty (suc i) ≡ true → AllRightly es) → AllRightly (e ∷ᵉ es)

@@ -1,6 +1,6 @@
 -- Tickets that differ in nothing that a listing shows: older storages' regions, and variables and statics added behind the others.
 use Rattle.std.specs.Prelude.{ℕ, Bool, true, false, ◌&&◌, not, List, [], ◌∷◌, ◌++◌, ◌≡◌, eqb}
-use Rattle.std.proofs.Math.Option.{Option, none, some}
+use Rattle.std.specs.Prelude.{Option, None, Some}
 use Rattle.spec.specs.Ticket.{StorageLine, PlacedLine, PlaceLine, NodeLine, Tables, arg}
 use Rattle.spec.specs.Text.{split, line_feed}
 use Rattle.spec.specs.Forms.{Arg, Head, s_line, v_line, g_line, Line, line_of, values}
@@ -61,11 +61,11 @@ SameListing =
 
 -- a line with this head and these numbers
 abbrev pub Reads : Head → List Arg → List ℕ → Type 0
-Reads h xa l = line_of l ≡ some (record { head = h; args = xa })
+Reads h xa l = line_of l ≡ Some (record { head = h; args = xa })
 
 abbrev pub of_kind : Head → Option Line → Bool
-of_kind h none = false
-of_kind h (some l) = eqb (rank l.head) (rank h)
+of_kind h None = false
+of_kind h (Some l) = eqb (rank l.head) (rank h)
 
 -- no line of a kind that has a rank of its own
 unfoldable pub none_of : Head → List (List ℕ) → Bool

@@ -1,6 +1,6 @@
 -- `type_size` and `integer_width` of a type line, allocation, and the bytes of a location.
 use Rattle.std.specs.Prelude.{ℕ, zero, suc, ◌+◌, ◌%◌, Bool, true, false, List, [], ◌∷◌, map}
-use Rattle.std.proofs.Math.Option.{Option, none, some}
+use Rattle.std.specs.Prelude.{Option, None, Some}
 use Rattle.spec.specs.Ticket.{TypeWord, t_unit, t_bool, t_bits, t_float, t_pointer, t_array, t_struct, t_tuple, t_opaque, Tables, type_at, arg}
 use Rattle.spec.specs.Lir.{ByteStorage, ValueStorage, bit_storage, byte_storage, StorageKind, Purpose, tmp}
 use Rattle.spec.specs.Lir as lir
@@ -15,15 +15,15 @@ abbrev pub pointer_type : ℕ
 pointer_type = 1
 
 abbrev pub width_of : TypeWord → List ℕ → Option ℕ
-width_of t_unit xs = none
-width_of t_bool xs = none
-width_of t_bits xs = some (arg xs 0)
-width_of t_float xs = none
-width_of t_pointer xs = some 16
-width_of t_array xs = none
-width_of t_struct xs = none
-width_of t_tuple xs = none
-width_of t_opaque xs = none
+width_of t_unit xs = None
+width_of t_bool xs = None
+width_of t_bits xs = Some (arg xs 0)
+width_of t_float xs = None
+width_of t_pointer xs = Some 16
+width_of t_array xs = None
+width_of t_struct xs = None
+width_of t_tuple xs = None
+width_of t_opaque xs = None
 
 -- a bits type's width; 0 for any other
 abbrev pub bits_of : TypeWord → List ℕ → ℕ

@@ -1,6 +1,6 @@
 -- `lower_integer_unary`, `lower_integer_binary`, `mask_location`.
 use Rattle.std.specs.Prelude.{ℕ, zero, suc, ◌-◌, ◌%◌, ◌^◌, Bool, true, false, ◌&&◌, cond, List, [], ◌∷◌, eqb, leb, length, get_or}
-use Rattle.std.proofs.Math.Option.{Option, none, some}
+use Rattle.std.specs.Prelude.{Option, None, Some}
 use Rattle.spec.specs.Hir.{IntegerUnaryOp, IntegerBinaryOp}
 use Rattle.spec.specs.Ticket.{Tables}
 use Rattle.spec.specs.Lir.{ByteStorage, ByteOperand, immediate, stored, InstructionKind, RotateDirection, ShiftOp, Value, copy_byte, not_byte, byte_binary, add, subtract, rotate, shift_bytes, integer_unary_bytes, integer_binary_bytes, add_carry, subtract_borrow, negate_borrow}
@@ -27,11 +27,11 @@ zip3 f i (d ∷ ds) (l ∷ ls) (r ∷ rs) = f i d l r ∷ zip3 f (suc i) ds ls r
 
 -- in: not at the first byte; out: not at the last of n destinations
 abbrev pub carry_in : ℕ → ℕ → Option ℕ
-carry_in c zero = none
-carry_in c (suc i) = some c
+carry_in c zero = None
+carry_in c (suc i) = Some c
 
 abbrev pub carry_out : ℕ → ℕ → ℕ → Option ℕ
-carry_out c n i = cond (eqb (suc i) n) none (some c)
+carry_out c n i = cond (eqb (suc i) n) None (Some c)
 
 unfoldable pub adds : ℕ → List ByteStorage → List ByteOperand → List ByteOperand → List InstructionKind
 adds c ds ls rs = zip3 (λ i d l r. add d l r (carry_in c i) (carry_out c (length ds) i)) 0 ds ls rs
@@ -81,8 +81,8 @@ rotates_or_shift true dir op width ds l r = byte_rotates dir (first_storage ds) 
 rotates_or_shift false dir op width ds l r = shift_bytes op width ds l r ∷ []
 
 abbrev shifts_by : Option RotateDirection → ShiftOp → ℕ → List ByteStorage → List ByteOperand → List ByteOperand → List InstructionKind
-shifts_by none op width ds l r = shift_bytes op width ds l r ∷ []
-shifts_by (some dir) op width ds l r = rotates_or_shift (byte_rotate width ds l r) dir op width ds l r
+shifts_by None op width ds l r = shift_bytes op width ds l r ∷ []
+shifts_by (Some dir) op width ds l r = rotates_or_shift (byte_rotate width ds l r) dir op width ds l r
 
 unfoldable pub shifts : ShiftOp → ℕ → List ByteStorage → List ByteOperand → List ByteOperand → List InstructionKind
 shifts op width ds l r = shifts_by (rotate_direction op) op width ds l r

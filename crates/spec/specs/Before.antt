@@ -1,6 +1,6 @@
 -- Reading and the answer with other limits for places, nodes and the sums over nodes: what document 01 had, and what E5 raised.
 use Rattle.std.specs.Prelude.{ℕ, suc, ◌+◌, Bool, true, false, ◌&&◌, List, [], ◌∷◌, leb, ltb, length}
-use Rattle.std.proofs.Math.Option.{Option, none, some}
+use Rattle.std.specs.Prelude.{Option, None, Some}
 use Rattle.spec.specs.Text.{split, line_feed}
 use Rattle.spec.specs.Limits.{text_limit, type_lines, storage_lines, variable_lines, static_lines}
 use Rattle.spec.specs.Ticket.{Tables}
@@ -48,8 +48,8 @@ module _ (L : Limits) where
       [])
 
   unfoldable pub step : Reading → Option Line → Step
-  step R none = stop 2
-  step R (some l) = StepBy R l (refusal_of R l)
+  step R None = stop 2
+  step R (Some l) = StepBy R l (refusal_of R l)
 
   unfoldable pub read_lines : List (List ℕ) → Reading → Read
   read_lines [] R = at_end R

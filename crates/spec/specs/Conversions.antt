@@ -1,6 +1,6 @@
 -- `lower_compare`, `lower_conversion`, `normalized_bytes`, and what `expression_as_bit` does with a value.
 use Rattle.std.specs.Prelude.{ℕ, Bool, true, false, List, [], ◌∷◌, map, eqb, length, replicate}
-use Rattle.std.proofs.Math.Option.{Option, none, some}
+use Rattle.std.specs.Prelude.{Option, None, Some}
 use Rattle.spec.specs.Hir.{CompareOp, ConversionOp}
 use Rattle.spec.specs.Ticket.{Tables}
 use Rattle.spec.specs.Lir.{ByteStorage, ByteOperand, immediate, BitOperand, stored_bit, InstructionKind, copy_byte, compare_bytes, bit_to_byte, sign_extend, Purpose, integer_to_boolean, condition, Value, value, bit_value, bytes_value}
@@ -38,8 +38,8 @@ module _ (T : Tables) where
     pure destination
 
   abbrev value_as_bit_by : Value → Option BitOperand → Lower BitOperand
-  value_as_bit_by v (some b) = pure b
-  value_as_bit_by v none = do
+  value_as_bit_by v (Some b) = pure b
+  value_as_bit_by v None = do
     d ← not_zero condition v
     pure (stored_bit d)
 

@@ -1,6 +1,6 @@
 -- What demands 2 and 3 say of the bytes left in the buffer, for every text and every lent buffer.
 use Rattle.std.specs.Prelude.{ℕ, suc, ◌+◌, ◌*◌, ◌≤◌, ◌<◌, Bool, true, false, ◌&&◌, List, [], ◌∷◌, ◌≡◌, eqb, ltb, length}
-use Rattle.std.proofs.Math.Option.{Option, none, some}
+use Rattle.std.specs.Prelude.{Option, None, Some}
 use Rattle.spec.specs.Limits.{type_depth_limit}
 use Rattle.spec.specs.Ticket.{Tables, type_size_in}
 use Rattle.spec.specs.Readable.{line_sum, root}
@@ -36,8 +36,8 @@ pub data Write : Type 0 where
   to_bit to_carry : ℕ → Write
 
 abbrev to_out : Option ℕ → List Write
-to_out none = []
-to_out (some c) = to_carry c ∷ []
+to_out None = []
+to_out (Some c) = to_carry c ∷ []
 
 unfoldable pub to_bytes : List ByteStorage → List Write
 to_bytes [] = []
@@ -63,26 +63,26 @@ writes (integer_unary_bytes op w ds s) = to_bytes ds
 writes (integer_binary_bytes op w ds l r) = to_bytes ds
 
 unfoldable pub kind_of : ℕ → List Storage → Option StorageKind
-kind_of n [] = none
-kind_of n (s ∷ ss) = elim (eqb n s.id) [ true ↦ some s.kind | false ↦ kind_of n ss ]
+kind_of n [] = None
+kind_of n (s ∷ ss) = elim (eqb n s.id) [ true ↦ Some s.kind | false ↦ kind_of n ss ]
 
 abbrev byte_in : ℕ → Option StorageKind → Bool
-byte_in o none = false
-byte_in o (some k) = ltb o (kind_bytes k)
+byte_in o None = false
+byte_in o (Some k) = ltb o (kind_bytes k)
 
 abbrev bit_in : Option StorageKind → Bool
-bit_in none = false
-bit_in (some lir.bit) = true
-bit_in (some lir.byte) = false
-bit_in (some (lir.bytes n)) = false
-bit_in (some lir.carry) = false
+bit_in None = false
+bit_in (Some lir.bit) = true
+bit_in (Some lir.byte) = false
+bit_in (Some (lir.bytes n)) = false
+bit_in (Some lir.carry) = false
 
 abbrev carry_in : Option StorageKind → Bool
-carry_in none = false
-carry_in (some lir.bit) = false
-carry_in (some lir.byte) = false
-carry_in (some (lir.bytes n)) = false
-carry_in (some lir.carry) = true
+carry_in None = false
+carry_in (Some lir.bit) = false
+carry_in (Some lir.byte) = false
+carry_in (Some (lir.bytes n)) = false
+carry_in (Some lir.carry) = true
 
 -- bytes inside the storage's length, bits and carries in storages of that kind
 unfoldable pub write_inside : List Storage → Write → Bool
@@ -106,7 +106,7 @@ numbered n (s ∷ ss) = eqb s.id n && numbered (suc n) ss
 -- the bytes s are a listing for a ticket of n nodes whose types add up to S bytes, and of so many older storages
 pub record Costs (S n older : ℕ) (s : List ℕ) : Type 0 where
   pub listing : Listing
-  pub reads : read_listing s ≡ some listing
+  pub reads : read_listing s ≡ Some listing
   pub instructions : length listing.instructions ≤ 2 * S + 2 * n
   pub storages : length listing.storages ≤ S + 2 * n
   pub bytes : all_bytes listing.storages ≤ S + 2 * n
@@ -125,9 +125,9 @@ CostBound =
 -- run in M, the bytes s as a listing leave d in the value's pieces, and the older storages as they were
 pub record Leaves (G : Given) (M : Memory) (older : ℕ) (s : List ℕ) (d : Data) : Type 0 where
   pub listing : Listing
-  pub reads : read_listing s ≡ some listing
+  pub reads : read_listing s ≡ Some listing
   pub after : Memory
-  pub runs : run G listing.instructions M ≡ some after
+  pub runs : run G listing.instructions M ≡ Some after
   pub value : data_of after listing.value ≡ d
   pub bytes : (k o : ℕ) → k < older → after.byte k o ≡ M.byte k o
   pub bits : (k : ℕ) → k < older → after.bit k ≡ M.bit k
@@ -138,5 +138,5 @@ RunsRight =
     (ticket buffer s : List ℕ) (T : Tables) → read_ticket ticket ≡ reading.accepted T → answer ticket (length buffer) ≡ accepted s
     → single_operation (root T) ≡ true → typed T (root T) ≡ true
     → (G : Given) (M : Memory) → Proper M → in_order T M (root T) ≡ true
-    → (d : Data) → eval T G M (root T) ≡ some d
+    → (d : Data) → eval T G M (root T) ≡ Some d
     → Leaves G M (length T.storages) s d

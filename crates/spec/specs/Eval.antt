@@ -1,6 +1,6 @@
 -- What an expression means in a memory, by the WebAssembly numerics; what a lowered value's pieces hold; and when reads are in order.
 use Rattle.std.specs.Prelude.{ℕ, zero, suc, ◌+◌, ◌%◌, ◌^◌, Bool, true, false, ◌&&◌, not, List, [], ◌∷◌, map, eqb, leb, ltb}
-use Rattle.std.proofs.Math.Option.{Option, none, some}
+use Rattle.std.specs.Prelude.{Option, None, Some}
 use Rattle.numerics.specs.Numerics.{truth, iadd, isub, imul, idiv_u, idiv_s, irem_u, irem_s, iand, ior, ixor, inot, ineg, ishl, ishr_u, ishr_s, irotl, irotr, iclz, ictz, ipopcnt, ieq, ine, ilt_u, ilt_s, igt_u, igt_s, ile_u, ile_s, ige_u, ige_s, wrap, extend_u, extend_s, iadd_sat_u, iadd_sat_s, isub_sat_u, isub_sat_s}
 use Rattle.spec.specs.Limits.{type_depth_limit}
 use Rattle.spec.specs.Hir.{Expr, boolean, integer, float32, float64, null_pointer, static_address, function_address, read, integer_unary, integer_binary, float_unary, float_binary, compare, convert, select, address_of, pointer_offset, aggregate, extract_element, insert_element, Exprs, no_exprs, ◌∷ᵉ◌, Place, IntegerUnaryOp, IntegerBinaryOp, CompareOp, ConversionOp, signed, unsigned}
@@ -68,17 +68,17 @@ parts_in (number k x) = no_data
 parts_in (parts ds) = ds
 
 unfoldable pub part_at : Datas → ℕ → Option Data
-part_at no_data i = none
-part_at (part t d ds) zero = some d
+part_at no_data i = None
+part_at (part t d ds) zero = Some d
 part_at (part t d ds) (suc i) = part_at ds i
 
 abbrev cons_part : ℕ → Data → Option Datas → Option Datas
-cons_part t d none = none
-cons_part t d (some ds) = some (part t d ds)
+cons_part t d None = None
+cons_part t d (Some ds) = Some (part t d ds)
 
 unfoldable pub set_part : Datas → ℕ → ℕ → Data → Option Datas
-set_part no_data i u e = none
-set_part (part t d ds) zero u e = some (part u e ds)
+set_part no_data i u e = None
+set_part (part t d ds) zero u e = Some (part u e ds)
 set_part (part t d ds) (suc i) u e = cons_part t d (set_part ds i u e)
 
 -- ---------------------------------------------------------------- operators
@@ -91,61 +91,61 @@ unary_numeric hir.count_trailing_zeros = ictz
 unary_numeric hir.population_count = ipopcnt
 
 unfoldable pub binary_numeric : IntegerBinaryOp → ℕ → ℕ → ℕ → Option ℕ
-binary_numeric hir.add N i j = some (iadd N i j)
-binary_numeric hir.subtract N i j = some (isub N i j)
-binary_numeric hir.multiply N i j = some (imul N i j)
+binary_numeric hir.add N i j = Some (iadd N i j)
+binary_numeric hir.subtract N i j = Some (isub N i j)
+binary_numeric hir.multiply N i j = Some (imul N i j)
 binary_numeric (hir.divide signed) N i j = idiv_s N i j
 binary_numeric (hir.divide unsigned) N i j = idiv_u N i j
 binary_numeric (hir.remainder signed) N i j = irem_s N i j
 binary_numeric (hir.remainder unsigned) N i j = irem_u N i j
-binary_numeric hir.and N i j = some (iand N i j)
-binary_numeric hir.or N i j = some (ior N i j)
-binary_numeric hir.xor N i j = some (ixor N i j)
-binary_numeric hir.shift_left N i j = some (ishl N i j)
-binary_numeric (hir.shift_right signed) N i j = some (ishr_s N i j)
-binary_numeric (hir.shift_right unsigned) N i j = some (ishr_u N i j)
-binary_numeric hir.rotate_left N i j = some (irotl N i j)
-binary_numeric hir.rotate_right N i j = some (irotr N i j)
-binary_numeric (hir.saturating_add signed) N i j = some (iadd_sat_s N i j)
-binary_numeric (hir.saturating_add unsigned) N i j = some (iadd_sat_u N i j)
-binary_numeric (hir.saturating_subtract signed) N i j = some (isub_sat_s N i j)
-binary_numeric (hir.saturating_subtract unsigned) N i j = some (isub_sat_u N i j)
+binary_numeric hir.and N i j = Some (iand N i j)
+binary_numeric hir.or N i j = Some (ior N i j)
+binary_numeric hir.xor N i j = Some (ixor N i j)
+binary_numeric hir.shift_left N i j = Some (ishl N i j)
+binary_numeric (hir.shift_right signed) N i j = Some (ishr_s N i j)
+binary_numeric (hir.shift_right unsigned) N i j = Some (ishr_u N i j)
+binary_numeric hir.rotate_left N i j = Some (irotl N i j)
+binary_numeric hir.rotate_right N i j = Some (irotr N i j)
+binary_numeric (hir.saturating_add signed) N i j = Some (iadd_sat_s N i j)
+binary_numeric (hir.saturating_add unsigned) N i j = Some (iadd_sat_u N i j)
+binary_numeric (hir.saturating_subtract signed) N i j = Some (isub_sat_s N i j)
+binary_numeric (hir.saturating_subtract unsigned) N i j = Some (isub_sat_u N i j)
 
 -- floats have no meaning here
 unfoldable pub compare_numeric : CompareOp → ℕ → ℕ → ℕ → Option ℕ
-compare_numeric hir.equal N i j = some (ieq N i j)
-compare_numeric hir.not_equal N i j = some (ine N i j)
-compare_numeric (hir.less_than signed) N i j = some (ilt_s N i j)
-compare_numeric (hir.less_than unsigned) N i j = some (ilt_u N i j)
-compare_numeric (hir.less_than_or_equal signed) N i j = some (ile_s N i j)
-compare_numeric (hir.less_than_or_equal unsigned) N i j = some (ile_u N i j)
-compare_numeric (hir.greater_than signed) N i j = some (igt_s N i j)
-compare_numeric (hir.greater_than unsigned) N i j = some (igt_u N i j)
-compare_numeric (hir.greater_than_or_equal signed) N i j = some (ige_s N i j)
-compare_numeric (hir.greater_than_or_equal unsigned) N i j = some (ige_u N i j)
-compare_numeric hir.float_equal N i j = none
-compare_numeric hir.float_not_equal N i j = none
-compare_numeric hir.float_less_than N i j = none
-compare_numeric hir.float_less_than_or_equal N i j = none
-compare_numeric hir.float_greater_than N i j = none
-compare_numeric hir.float_greater_than_or_equal N i j = none
+compare_numeric hir.equal N i j = Some (ieq N i j)
+compare_numeric hir.not_equal N i j = Some (ine N i j)
+compare_numeric (hir.less_than signed) N i j = Some (ilt_s N i j)
+compare_numeric (hir.less_than unsigned) N i j = Some (ilt_u N i j)
+compare_numeric (hir.less_than_or_equal signed) N i j = Some (ile_s N i j)
+compare_numeric (hir.less_than_or_equal unsigned) N i j = Some (ile_u N i j)
+compare_numeric (hir.greater_than signed) N i j = Some (igt_s N i j)
+compare_numeric (hir.greater_than unsigned) N i j = Some (igt_u N i j)
+compare_numeric (hir.greater_than_or_equal signed) N i j = Some (ige_s N i j)
+compare_numeric (hir.greater_than_or_equal unsigned) N i j = Some (ige_u N i j)
+compare_numeric hir.float_equal N i j = None
+compare_numeric hir.float_not_equal N i j = None
+compare_numeric hir.float_less_than N i j = None
+compare_numeric hir.float_less_than_or_equal N i j = None
+compare_numeric hir.float_greater_than N i j = None
+compare_numeric hir.float_greater_than_or_equal N i j = None
 
 -- ---------------------------------------------------------------- what stands at a place
 
 abbrev outcome : {A : Type 0} → Outcome A → Option A
-outcome (refused n l) = none
-outcome (done a c o) = some a
+outcome (refused n l) = None
+outcome (done a c o) = Some a
 
 abbrev no_counters : Counters
 no_counters = record { storage = 0; temporary = 0 }
 
 abbrev then : {A B : Type 0} → Option A → (A → Option B) → Option B
-then none f = none
-then (some a) f = f a
+then None f = None
+then (Some a) f = f a
 
 abbrev mapped : {A B : Type 0} → (A → B) → Option A → Option B
-mapped f none = none
-mapped f (some a) = some (f a)
+mapped f None = None
+mapped f (Some a) = Some (f a)
 
 module _ (T : Tables) where
   unfoldable pub located : Place → ℕ → Option Location
@@ -187,7 +187,7 @@ module _ (T : Tables) where
   data_at M l false = stored_data M l.storage type_depth_limit l.ty l.offset
 
   unfoldable pub read_data : Memory → Place → ℕ → Option Data
-  read_data M p ty = then (located p ty) (λ l. some (data_at M l l.is_bit))
+  read_data M p ty = then (located p ty) (λ l. Some (data_at M l l.is_bit))
 
   -- ------------------------------------------------------------ the expression
 
@@ -198,49 +198,49 @@ module _ (T : Tables) where
   pointer_data n = number 2 (n % 65536)
 
   unfoldable pub conversion_data : ConversionOp → ℕ → ℕ → Data → Option Data
-  conversion_data hir.truncate s t d = some (bits_data t (wrap (width T s) (width T t) (number_in d)))
-  conversion_data hir.zero_extend s t d = some (bits_data t (extend_u (width T s) (width T t) (number_in d)))
-  conversion_data hir.sign_extend s t d = some (bits_data t (extend_s (width T s) (width T t) (number_in d)))
-  conversion_data (hir.integer_to_float x) s t d = none
-  conversion_data (hir.float_to_integer x y) s t d = none
-  conversion_data hir.promote_float s t d = none
-  conversion_data hir.demote_float s t d = none
-  conversion_data hir.reinterpret s t d = some d
-  conversion_data hir.boolean_to_integer s t d = some (bits_data t (number_in d))
-  conversion_data hir.integer_to_boolean s t d = some (flag (ine (width T s) (number_in d) 0))
+  conversion_data hir.truncate s t d = Some (bits_data t (wrap (width T s) (width T t) (number_in d)))
+  conversion_data hir.zero_extend s t d = Some (bits_data t (extend_u (width T s) (width T t) (number_in d)))
+  conversion_data hir.sign_extend s t d = Some (bits_data t (extend_s (width T s) (width T t) (number_in d)))
+  conversion_data (hir.integer_to_float x) s t d = None
+  conversion_data (hir.float_to_integer x y) s t d = None
+  conversion_data hir.promote_float s t d = None
+  conversion_data hir.demote_float s t d = None
+  conversion_data hir.reinterpret s t d = Some d
+  conversion_data hir.boolean_to_integer s t d = Some (bits_data t (number_in d))
+  conversion_data hir.integer_to_boolean s t d = Some (flag (ine (width T s) (number_in d) 0))
 
   module _ (G : Given) (M : Memory) where
     -- none where Wasm leaves a division undefined, or where the expression has no lowering
     unfoldable mutual
       pub eval : Expr → Option Data
-      eval (boolean h b) = some (flag b)
-      eval (integer h v) = some (bits_data h.ty v)
-      eval (float32 h v) = none
-      eval (float64 h v) = none
-      eval (null_pointer h) = some (pointer_data 0)
-      eval (static_address h k o) = then (nth T.statics k) (λ p. some (pointer_data (G.base p.storage + o)))
-      eval (function_address h f) = some (pointer_data (G.function f))
+      eval (boolean h b) = Some (flag b)
+      eval (integer h v) = Some (bits_data h.ty v)
+      eval (float32 h v) = None
+      eval (float64 h v) = None
+      eval (null_pointer h) = Some (pointer_data 0)
+      eval (static_address h k o) = then (nth T.statics k) (λ p. Some (pointer_data (G.base p.storage + o)))
+      eval (function_address h f) = Some (pointer_data (G.function f))
       eval (read h p) = read_data M p h.ty
-      eval (integer_unary h op e) = then (eval e) (λ d. some (bits_data h.ty (unary_numeric op (width T h.ty) (number_in d))))
+      eval (integer_unary h op e) = then (eval e) (λ d. Some (bits_data h.ty (unary_numeric op (width T h.ty) (number_in d))))
       eval (integer_binary h op l r) =
           then (eval l) (λ c. then (eval r) (λ d.
           mapped (bits_data h.ty) (binary_numeric op (width T h.ty) (number_in c) (number_in d))))
-      eval (float_unary h e) = none
-      eval (float_binary h l r) = none
+      eval (float_unary h e) = None
+      eval (float_binary h l r) = None
       eval (compare h op l r) =
           then (eval l) (λ c. then (eval r) (λ d.
           mapped flag (compare_numeric op (width T (type_of l)) (number_in c) (number_in d))))
       eval (convert h op e) = then (eval e) (conversion_data op (type_of e) h.ty)
-      eval (select h t f c) = then (eval t) (λ x. then (eval f) (λ y. then (eval c) (λ d. some (pick (holds d) x y))))
-      eval (address_of h p) = then (based p) (λ b. some (pointer_data (G.base b.storage + b.offset)))
-      eval (pointer_offset h b o) = then (eval b) (λ c. then (eval o) (λ d. some (pointer_data (number_in c + number_in d))))
+      eval (select h t f c) = then (eval t) (λ x. then (eval f) (λ y. then (eval c) (λ d. Some (pick (holds d) x y))))
+      eval (address_of h p) = then (based p) (λ b. Some (pointer_data (G.base b.storage + b.offset)))
+      eval (pointer_offset h b o) = then (eval b) (λ c. then (eval o) (λ d. Some (pointer_data (number_in c + number_in d))))
       eval (aggregate h es) = mapped parts (evals es)
       eval (extract_element h e i) = then (eval e) (λ d. part_at (parts_in d) i)
       eval (insert_element h e i w) =
           then (eval e) (λ d. then (eval w) (λ x. mapped parts (set_part (parts_in d) i (type_of w) x)))
 
       pub evals : Exprs → Option Datas
-      evals no_exprs = some no_data
+      evals no_exprs = Some no_data
       evals (e ∷ᵉ es) = then (eval e) (λ d. mapped (part (type_of e) d) (evals es))
 
 -- ---------------------------------------------------------------- premises of the running claims
@@ -255,8 +255,8 @@ module _ (T : Tables) where
   ends_inside l false = leb (l.offset + type_size T l.ty) (storage_bytes (storage_at T l.storage))
 
   abbrev inside_by : Option Location → Bool
-  inside_by none = true
-  inside_by (some l) = ends_inside l l.is_bit
+  inside_by None = true
+  inside_by (Some l) = ends_inside l l.is_bit
 
   -- a read ends inside its storage; a BIT 1 read names a kind 0 storage
   unfoldable pub read_inside : Place → ℕ → Bool
@@ -284,8 +284,8 @@ module _ (T : Tables) where
   fits (suc k) ty d = fit_word (λ t e. fits k t e) (type_at T ty).word (type_at T ty).args d
 
   abbrev fits_by : ℕ → Option Data → Bool
-  fits_by ty none = true
-  fits_by ty (some d) = fits type_depth_limit ty d
+  fits_by ty None = true
+  fits_by ty (Some d) = fits type_depth_limit ty d
 
   -- every read inside, every constant and number read fitting its width
   module _ (M : Memory) where

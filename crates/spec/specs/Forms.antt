@@ -1,7 +1,7 @@
 -- The forms of a ticket's lines (document 01, 'Ticket'): a line's head and the numbers behind it, each with its field's class.
 use Rattle.std.specs.Prelude.{ℕ, true, false, List, [], ◌∷◌}
 use Prim.Native.String.{String}
-use Rattle.std.proofs.Math.Option.{Option, none, some}
+use Rattle.std.specs.Prelude.{Option, None, Some}
 use Rattle.spec.specs.Text.{bytes, same, split, number, comma}
 use Rattle.spec.specs.Limits.{greatest_16, greatest_32, greatest_64, all_regions}
 use Rattle.spec.specs.Ticket.{TypeWord, t_unit, t_bool, t_bits, t_float, t_pointer, t_array, t_struct, t_tuple, t_opaque, PlaceWord, p_variable, p_static, p_field, p_element, p_offset, NodeWord, n_bool, n_int, n_f32, n_f64, n_null, n_static_address, n_function, n_read, n_unary, n_binary, n_funary, n_fbinary, n_compare, n_convert, n_select, n_address, n_offset, n_aggregate, n_extract, n_insert}
@@ -25,10 +25,10 @@ pub record Rule (A : Type 0) : Type 0 where
   pub rest : Option Field
 
 abbrev pub rule : {A : Type 0} → String → A → List Field → Rule A
-rule w a fs = record { word = w; make = a; fields = fs; rest = none }
+rule w a fs = record { word = w; make = a; fields = fs; rest = None }
 
 abbrev pub many : {A : Type 0} → String → A → Field → Rule A
-many w a f = record { word = w; make = a; fields = []; rest = some f }
+many w a f = record { word = w; make = a; fields = []; rest = Some f }
 
 abbrev pub type_rules : List (Rule TypeWord)
 type_rules =
@@ -86,8 +86,8 @@ abbrev pub placed_fields : List Field
 placed_fields = storage ∷ up_to greatest_16 ∷ type ∷ up_to 1 ∷ []
 
 unfoldable pub find : {A : Type 0} → List (Rule A) → List ℕ → Option (Rule A)
-find [] w = none
-find (r ∷ rs) w = elim (same (bytes r.word) w) [ true ↦ some r | false ↦ find rs w ]
+find [] w = None
+find (r ∷ rs) w = elim (same (bytes r.word) w) [ true ↦ Some r | false ↦ find rs w ]
 
 -- ---------------------------------------------------------------- a line
 
@@ -108,44 +108,44 @@ pub record Line : Type 0 where
   pub args : List Arg
 
 abbrev pub cons_arg : Field → Option ℕ → Option (List Arg) → Option (List Arg)
-cons_arg f none xa = none
-cons_arg f (some x) none = none
-cons_arg f (some x) (some xa) = some (record { class = f; value = x } ∷ xa)
+cons_arg f None xa = None
+cons_arg f (Some x) None = None
+cons_arg f (Some x) (Some xa) = Some (record { class = f; value = x } ∷ xa)
 
 -- fields that are numbers in document 01's form, and just as many as the rule has
 unfoldable pub rest_args : Option Field → List (List ℕ) → Option (List Arg)
-rest_args r [] = some []
-rest_args none (w ∷ ws) = none
-rest_args (some f) (w ∷ ws) = cons_arg f (number w) (rest_args (some f) ws)
+rest_args r [] = Some []
+rest_args None (w ∷ ws) = None
+rest_args (Some f) (w ∷ ws) = cons_arg f (number w) (rest_args (Some f) ws)
 
 unfoldable pub args_of : List Field → Option Field → List (List ℕ) → Option (List Arg)
 args_of [] r ws = rest_args r ws
-args_of (f ∷ fs) r [] = none
+args_of (f ∷ fs) r [] = None
 args_of (f ∷ fs) r (w ∷ ws) = cons_arg f (number w) (args_of fs r ws)
 
 abbrev pub line_with : Head → Option (List Arg) → Option Line
-line_with h none = none
-line_with h (some xa) = some (record { head = h; args = xa })
+line_with h None = None
+line_with h (Some xa) = Some (record { head = h; args = xa })
 
 abbrev pub by_rule : {A : Type 0} → (A → Head) → List Field → Option (Rule A) → List (List ℕ) → Option Line
-by_rule h before none ws = none
-by_rule h before (some r) ws = line_with (h r.make) (args_of (prepended before r.fields) r.rest ws)
+by_rule h before None ws = None
+by_rule h before (Some r) ws = line_with (h r.make) (args_of (prepended before r.fields) r.rest ws)
   where
     prepended : List Field → List Field → List Field
     prepended [] gs = gs
     prepended (f ∷ fs) gs = f ∷ prepended fs gs
 
 unfoldable pub type_form : List (List ℕ) → Option Line
-type_form [] = none
+type_form [] = None
 type_form (w ∷ ws) = by_rule t_line [] (find type_rules w) ws
 
 unfoldable pub place_form : List (List ℕ) → Option Line
-place_form [] = none
+place_form [] = None
 place_form (w ∷ ws) = by_rule p_line [] (find place_rules w) ws
 
 unfoldable pub node_form : List (List ℕ) → Option Line
-node_form [] = none
-node_form (t ∷ []) = none
+node_form [] = None
+node_form (t ∷ []) = None
 node_form (t ∷ w ∷ ws) = by_rule n_line (type ∷ []) (find node_rules w) (t ∷ ws)
 
 pub data Kind : Type 0 where
@@ -155,20 +155,20 @@ abbrev pub kind_rules : List (Rule Kind)
 kind_rules = rule "f" k_f [] ∷ rule "t" k_t [] ∷ rule "s" k_s [] ∷ rule "v" k_v [] ∷ rule "g" k_g [] ∷ rule "p" k_p [] ∷ rule "n" k_n [] ∷ []
 
 unfoldable pub form_of : Kind → List (List ℕ) → Option Line
-form_of k_f ws = line_with f_line (args_of function_fields none ws)
+form_of k_f ws = line_with f_line (args_of function_fields None ws)
 form_of k_t ws = type_form ws
-form_of k_s ws = line_with s_line (args_of storage_fields none ws)
-form_of k_v ws = line_with v_line (args_of placed_fields none ws)
-form_of k_g ws = line_with g_line (args_of placed_fields none ws)
+form_of k_s ws = line_with s_line (args_of storage_fields None ws)
+form_of k_v ws = line_with v_line (args_of placed_fields None ws)
+form_of k_g ws = line_with g_line (args_of placed_fields None ws)
 form_of k_p ws = place_form ws
 form_of k_n ws = node_form ws
 
 abbrev pub form_by : Option (Rule Kind) → List (List ℕ) → Option Line
-form_by none ws = none
-form_by (some r) ws = form_of r.make ws
+form_by None ws = None
+form_by (Some r) ws = form_of r.make ws
 
 abbrev pub form_of_fields : List (List ℕ) → Option Line
-form_of_fields [] = none
+form_of_fields [] = None
 form_of_fields (w ∷ ws) = form_by (find kind_rules w) ws
 
 -- a line without its line feed

@@ -1,6 +1,6 @@
 -- lir.rs and the values of lir_lower.rs: operands, instructions, storages, values, and the listing that holds them.
 use Rattle.std.specs.Prelude.{ℕ, List, [], ◌∷◌, ◌++◌, map}
-use Rattle.std.proofs.Math.Option.{Option}
+use Rattle.std.specs.Prelude.{Option}
 
 -- ---------------------------------------------------------------- operands
 

@@ -1,6 +1,6 @@
 -- Document 01, 'Meanings when run': memory, what one instruction does, a run.
 use Rattle.std.specs.Prelude.{ℕ, zero, suc, ◌+◌, ◌-◌, ◌*◌, ◌/◌, ◌%◌, ◌^◌, ◌<◌, ◌≤◌, Bool, true, false, ◌&&◌, not, List, [], ◌∷◌, eqb, ltb, length}
-use Rattle.std.proofs.Math.Option.{Option, none, some}
+use Rattle.std.specs.Prelude.{Option, None, Some}
 use Rattle.std.specs.Int.Bits.{bit_and, bit_or, bit_xor}
 use Rattle.numerics.specs.Numerics.{truth, imul, idiv_u, idiv_s, irem_u, irem_s, iadd_sat_u, iadd_sat_s, isub_sat_u, isub_sat_s, ishl, ishr_u, ishr_s, irotl, irotr, iclz, ictz, ipopcnt, ieq, ine, ilt_u, ilt_s, igt_u, igt_s, ile_u, ile_s, ige_u, ige_s, extend_s}
 use Rattle.spec.specs.Lir.{ByteStorage, ByteOperand, immediate, stored, BitOperand, constant, stored_bit, ByteBinaryOp, RotateDirection, left, right, ShiftOp, CompareOp, IntegerUnaryBytesOp, IntegerBinaryBytesOp, InstructionKind, Instruction, copy_byte, not_byte, byte_binary, add, subtract, rotate, address_of, function_address, shift_bytes, compare_bytes, select_byte, select_bit, bit_to_byte, byte_to_bit, sign_extend, integer_unary_bytes, integer_binary_bytes}
@@ -51,8 +51,8 @@ set_bytes (d ∷ ds) [] M = M
 set_bytes (d ∷ ds) (v ∷ vs) M = set_bytes ds vs (set_byte d v M)
 
 unfoldable pub set_carry : Option ℕ → ℕ → Memory → Memory
-set_carry none v M = M
-set_carry (some c) v M = set_bit c v M
+set_carry None v M = M
+set_carry (Some c) v M = set_bit c v M
 
 abbrev pub operand : Memory → ByteOperand → ℕ
 operand M (immediate n) = n
@@ -67,8 +67,8 @@ bit_of M (constant n) = n
 bit_of M (stored_bit s) = M.bit s
 
 abbrev pub carry_of : Memory → Option ℕ → ℕ
-carry_of M none = 0
-carry_of M (some s) = M.bit s
+carry_of M None = 0
+carry_of M (Some s) = M.bit s
 
 -- an operand list as a number: bits from WIDTH up are not read
 abbrev pub number : ℕ → Memory → List ByteOperand → ℕ
@@ -119,23 +119,23 @@ unary_op lir.count_trailing_zeros = ictz
 unary_op lir.population_count = ipopcnt
 
 unfoldable pub binary_op : IntegerBinaryBytesOp → ℕ → ℕ → ℕ → Option ℕ
-binary_op lir.multiply N i j = some (imul N i j)
+binary_op lir.multiply N i j = Some (imul N i j)
 binary_op lir.divide_unsigned N i j = idiv_u N i j
 binary_op lir.divide_signed N i j = idiv_s N i j
 binary_op lir.remainder_unsigned N i j = irem_u N i j
 binary_op lir.remainder_signed N i j = irem_s N i j
-binary_op lir.saturating_add_unsigned N i j = some (iadd_sat_u N i j)
-binary_op lir.saturating_add_signed N i j = some (iadd_sat_s N i j)
-binary_op lir.saturating_subtract_unsigned N i j = some (isub_sat_u N i j)
-binary_op lir.saturating_subtract_signed N i j = some (isub_sat_s N i j)
+binary_op lir.saturating_add_unsigned N i j = Some (iadd_sat_u N i j)
+binary_op lir.saturating_add_signed N i j = Some (iadd_sat_s N i j)
+binary_op lir.saturating_subtract_unsigned N i j = Some (isub_sat_u N i j)
+binary_op lir.saturating_subtract_signed N i j = Some (isub_sat_s N i j)
 
 abbrev pub or_zero : Option ℕ → ℕ
-or_zero none = 0
-or_zero (some n) = n
+or_zero None = 0
+or_zero (Some n) = n
 
 abbrev pub is_some : {A : Type 0} → Option A → Bool
-is_some none = false
-is_some (some a) = true
+is_some None = false
+is_some (Some a) = true
 
 -- ---------------------------------------------------------------- one instruction
 
@@ -189,9 +189,9 @@ module _ (G : Given) where
   effect (integer_binary_bytes op w ds l r) M = spread ds (or_zero (binary_op op w (number w M l) (number w M r))) M
 
   unfoldable pub step : Instruction → Memory → Option Memory
-  step i M = elim (defined i.kind M) [ true ↦ some (effect i.kind M) | false ↦ none ]
+  step i M = elim (defined i.kind M) [ true ↦ Some (effect i.kind M) | false ↦ None ]
 
   -- from first to last, each once
   unfoldable pub run : List Instruction → Memory → Option Memory
-  run [] M = some M
-  run (i ∷ is) M = elim (step i M) [ none ↦ none | some M' ↦ run is M' ]
+  run [] M = Some M
+  run (i ∷ is) M = elim (step i M) [ None ↦ None | Some M' ↦ run is M' ]

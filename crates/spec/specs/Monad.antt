@@ -1,6 +1,6 @@
 -- A step of lowering: it appends storages, narrowed storages and instructions, advances two counters, and answers or refuses.
 use Rattle.std.specs.Prelude.{ℕ, Bool, true, false, List, [], ◌∷◌, ◌++◌}
-use Rattle.std.proofs.Math.Option.{Option, none, some}
+use Rattle.std.specs.Prelude.{Option, None, Some}
 use Rattle.spec.specs.Hir.{At}
 use Rattle.spec.specs.Lir.{Instruction, InstructionKind, Storage}
 
@@ -75,8 +75,8 @@ abbrev pub narrow : ℕ → Lower Unit
 narrow s = λ h c. done tt c (record { storages = []; narrowed = s ∷ []; instructions = [] })
 
 unfoldable pub or_refuse : {A : Type 0} → ℕ → Option A → Lower A
-or_refuse n none = refuse n
-or_refuse n (some a) = pure a
+or_refuse n None = refuse n
+or_refuse n (Some a) = pure a
 
 unfoldable pub require : ℕ → Bool → Lower Unit
 require n true = pure tt

@@ -1,6 +1,6 @@
 -- Values and operands: `value_bytes`, `value_bit`, `integer_bytes`, `immediate_bytes`, and lists of bytes.
 use Rattle.std.specs.Prelude.{ℕ, zero, suc, ◌/◌, ◌%◌, Bool, true, false, List, [], ◌∷◌}
-use Rattle.std.proofs.Math.Option.{Option, none, some}
+use Rattle.std.specs.Prelude.{Option, None, Some}
 use Rattle.spec.specs.Lir.{ByteOperand, immediate, stored, BitOperand, Value, value, Repr, unit, bit_value, bytes_value, aggregate, Values, no_values, ◌∷ᵛ◌}
 use Rattle.spec.specs.Monad.{Lower, or_refuse}
 
@@ -11,22 +11,22 @@ abbrev pub value_repr : Value → Repr
 value_repr (value ty r) = r
 
 abbrev pub repr_bytes : Repr → Option (List ByteOperand)
-repr_bytes unit = none
-repr_bytes (bit_value b) = none
-repr_bytes (bytes_value bs) = some bs
-repr_bytes (aggregate vs) = none
+repr_bytes unit = None
+repr_bytes (bit_value b) = None
+repr_bytes (bytes_value bs) = Some bs
+repr_bytes (aggregate vs) = None
 
 abbrev pub repr_bit : Repr → Option BitOperand
-repr_bit unit = none
-repr_bit (bit_value b) = some b
-repr_bit (bytes_value bs) = none
-repr_bit (aggregate vs) = none
+repr_bit unit = None
+repr_bit (bit_value b) = Some b
+repr_bit (bytes_value bs) = None
+repr_bit (aggregate vs) = None
 
 abbrev pub repr_parts : Repr → Option Values
-repr_parts unit = none
-repr_parts (bit_value b) = none
-repr_parts (bytes_value bs) = none
-repr_parts (aggregate vs) = some vs
+repr_parts unit = None
+repr_parts (bit_value b) = None
+repr_parts (bytes_value bs) = None
+repr_parts (aggregate vs) = Some vs
 
 unfoldable pub value_bytes : Value → Lower (List ByteOperand)
 value_bytes v = or_refuse 24 (repr_bytes (value_repr v))
@@ -60,16 +60,16 @@ resize (suc n) (b ∷ bs) = b ∷ resize n bs
 -- ---------------------------------------------------------------- lists: `get`, and a vector's element replaced
 
 unfoldable pub nth : {A : Type 0} → List A → ℕ → Option A
-nth [] n = none
-nth (x ∷ xs) zero = some x
+nth [] n = None
+nth (x ∷ xs) zero = Some x
 nth (x ∷ xs) (suc n) = nth xs n
 
 unfoldable pub nth_value : Values → ℕ → Option Value
-nth_value no_values n = none
-nth_value (v ∷ᵛ vs) zero = some v
+nth_value no_values n = None
+nth_value (v ∷ᵛ vs) zero = Some v
 nth_value (v ∷ᵛ vs) (suc n) = nth_value vs n
 
 unfoldable pub set_value : Values → ℕ → Value → Option Values
-set_value no_values n w = none
-set_value (v ∷ᵛ vs) zero w = some (w ∷ᵛ vs)
-set_value (v ∷ᵛ vs) (suc n) w = elim (set_value vs n w) [ none ↦ none | some us ↦ some (v ∷ᵛ us) ]
+set_value no_values n w = None
+set_value (v ∷ᵛ vs) zero w = Some (w ∷ᵛ vs)
+set_value (v ∷ᵛ vs) (suc n) w = elim (set_value vs n w) [ None ↦ None | Some us ↦ Some (v ∷ᵛ us) ]

@@ -1,26 +1,26 @@
 -- From hir.rs's operators to lir.rs's: `compare_op`, `integer_binary_bytes_op`, and the choices that `lower_integer_unary`,
 -- `lower_integer_binary` and `lower_conversion` make by a `match`.
-use Rattle.std.proofs.Math.Option.{Option, none, some}
+use Rattle.std.specs.Prelude.{Option, None, Some}
 use Rattle.spec.specs.Hir as hir
 use Rattle.spec.specs.Lir as lir
 
 unfoldable pub compare_op : hir.CompareOp → Option lir.CompareOp
-compare_op hir.equal = some lir.equal
-compare_op hir.not_equal = some lir.not_equal
-compare_op (hir.less_than hir.unsigned) = some lir.less_than_unsigned
-compare_op (hir.less_than hir.signed) = some lir.less_than_signed
-compare_op (hir.less_than_or_equal hir.unsigned) = some lir.less_than_or_equal_unsigned
-compare_op (hir.less_than_or_equal hir.signed) = some lir.less_than_or_equal_signed
-compare_op (hir.greater_than hir.unsigned) = some lir.greater_than_unsigned
-compare_op (hir.greater_than hir.signed) = some lir.greater_than_signed
-compare_op (hir.greater_than_or_equal hir.unsigned) = some lir.greater_than_or_equal_unsigned
-compare_op (hir.greater_than_or_equal hir.signed) = some lir.greater_than_or_equal_signed
-compare_op hir.float_equal = none
-compare_op hir.float_not_equal = none
-compare_op hir.float_less_than = none
-compare_op hir.float_less_than_or_equal = none
-compare_op hir.float_greater_than = none
-compare_op hir.float_greater_than_or_equal = none
+compare_op hir.equal = Some lir.equal
+compare_op hir.not_equal = Some lir.not_equal
+compare_op (hir.less_than hir.unsigned) = Some lir.less_than_unsigned
+compare_op (hir.less_than hir.signed) = Some lir.less_than_signed
+compare_op (hir.less_than_or_equal hir.unsigned) = Some lir.less_than_or_equal_unsigned
+compare_op (hir.less_than_or_equal hir.signed) = Some lir.less_than_or_equal_signed
+compare_op (hir.greater_than hir.unsigned) = Some lir.greater_than_unsigned
+compare_op (hir.greater_than hir.signed) = Some lir.greater_than_signed
+compare_op (hir.greater_than_or_equal hir.unsigned) = Some lir.greater_than_or_equal_unsigned
+compare_op (hir.greater_than_or_equal hir.signed) = Some lir.greater_than_or_equal_signed
+compare_op hir.float_equal = None
+compare_op hir.float_not_equal = None
+compare_op hir.float_less_than = None
+compare_op hir.float_less_than_or_equal = None
+compare_op hir.float_greater_than = None
+compare_op hir.float_greater_than_or_equal = None
 
 -- how an operator is lowered: byte by byte with a carry or without, or as one instruction
 pub data UnaryForm : Type 0 where
@@ -63,11 +63,11 @@ binary_form (hir.saturating_subtract hir.signed) = whole lir.saturating_subtract
 
 -- the rotates among the shifts, with their direction
 unfoldable pub rotate_direction : lir.ShiftOp → Option lir.RotateDirection
-rotate_direction lir.shift_left = none
-rotate_direction lir.shift_right_unsigned = none
-rotate_direction lir.shift_right_signed = none
-rotate_direction lir.rotate_left = some lir.left
-rotate_direction lir.rotate_right = some lir.right
+rotate_direction lir.shift_left = None
+rotate_direction lir.shift_right_unsigned = None
+rotate_direction lir.shift_right_signed = None
+rotate_direction lir.rotate_left = Some lir.left
+rotate_direction lir.rotate_right = Some lir.right
 
 abbrev pub opposite : lir.RotateDirection → lir.RotateDirection
 opposite lir.left = lir.right

@@ -1,6 +1,6 @@
 -- Places: `field_offset`, `constant_usize`, `resolve_place`, `resolve_place_base`, `with_type`.
 use Rattle.std.specs.Prelude.{ℕ, ◌+◌, ◌-◌, ◌*◌, Bool, false, List, [], ◌∷◌, eqb, leb, ltb, take}
-use Rattle.std.proofs.Math.Option.{Option, none, some}
+use Rattle.std.specs.Prelude.{Option, None, Some}
 use Rattle.spec.specs.Limits.{offset_limit}
 use Rattle.spec.specs.Hir.{Expr, boolean, integer, float32, float64, null_pointer, static_address, function_address, read, integer_unary, integer_binary, float_unary, float_binary, compare, convert, select, address_of, pointer_offset, aggregate, extract_element, insert_element, Place, variable, static, field, element, byte_offset}
 use Rattle.spec.specs.Ticket.{TypeWord, t_unit, t_bool, t_bits, t_float, t_pointer, t_array, t_struct, t_tuple, t_opaque, PlacedLine, Tables, type_at, arg, sum}
@@ -10,52 +10,52 @@ use Rattle.spec.specs.Allocation.{Location, type_size}
 
 -- an index or an offset of a place: that expression is looked at, and never lowered
 unfoldable pub constant_usize : Expr → Option ℕ
-constant_usize (boolean h b) = none
-constant_usize (integer h v) = some v
-constant_usize (float32 h v) = none
-constant_usize (float64 h v) = none
-constant_usize (null_pointer h) = none
-constant_usize (static_address h k o) = none
-constant_usize (function_address h f) = none
-constant_usize (read h p) = none
-constant_usize (integer_unary h op e) = none
-constant_usize (integer_binary h op l r) = none
-constant_usize (float_unary h e) = none
-constant_usize (float_binary h l r) = none
-constant_usize (compare h op l r) = none
-constant_usize (convert h op e) = none
-constant_usize (select h t f c) = none
-constant_usize (address_of h p) = none
-constant_usize (pointer_offset h b o) = none
-constant_usize (aggregate h es) = none
-constant_usize (extract_element h e i) = none
-constant_usize (insert_element h e i v) = none
+constant_usize (boolean h b) = None
+constant_usize (integer h v) = Some v
+constant_usize (float32 h v) = None
+constant_usize (float64 h v) = None
+constant_usize (null_pointer h) = None
+constant_usize (static_address h k o) = None
+constant_usize (function_address h f) = None
+constant_usize (read h p) = None
+constant_usize (integer_unary h op e) = None
+constant_usize (integer_binary h op l r) = None
+constant_usize (float_unary h e) = None
+constant_usize (float_binary h l r) = None
+constant_usize (compare h op l r) = None
+constant_usize (convert h op e) = None
+constant_usize (select h t f c) = None
+constant_usize (address_of h p) = None
+constant_usize (pointer_offset h b o) = None
+constant_usize (aggregate h es) = None
+constant_usize (extract_element h e i) = None
+constant_usize (insert_element h e i v) = None
 
 abbrev pub fields_of : TypeWord → List ℕ → Option (List ℕ)
-fields_of t_unit xs = none
-fields_of t_bool xs = none
-fields_of t_bits xs = none
-fields_of t_float xs = none
-fields_of t_pointer xs = none
-fields_of t_array xs = none
-fields_of t_struct xs = some xs
-fields_of t_tuple xs = some xs
-fields_of t_opaque xs = none
+fields_of t_unit xs = None
+fields_of t_bool xs = None
+fields_of t_bits xs = None
+fields_of t_float xs = None
+fields_of t_pointer xs = None
+fields_of t_array xs = None
+fields_of t_struct xs = Some xs
+fields_of t_tuple xs = Some xs
+fields_of t_opaque xs = None
 
 pub record ArrayOf : Type 0 where
   pub element : ℕ
   pub len : ℕ
 
 abbrev pub array_of : TypeWord → List ℕ → Option ArrayOf
-array_of t_unit xs = none
-array_of t_bool xs = none
-array_of t_bits xs = none
-array_of t_float xs = none
-array_of t_pointer xs = none
-array_of t_array xs = some (record { element = arg xs 0; len = arg xs 1 })
-array_of t_struct xs = none
-array_of t_tuple xs = none
-array_of t_opaque xs = none
+array_of t_unit xs = None
+array_of t_bool xs = None
+array_of t_bits xs = None
+array_of t_float xs = None
+array_of t_pointer xs = None
+array_of t_array xs = Some (record { element = arg xs 0; len = arg xs 1 })
+array_of t_struct xs = None
+array_of t_tuple xs = None
+array_of t_opaque xs = None
 
 -- a part of a type: where it begins, and its own type
 pub record Part : Type 0 where

@@ -1,6 +1,6 @@
 -- The listing's text (document 01, 'Listing').
 use Rattle.std.specs.Prelude.{ℕ, suc, List, [], ◌∷◌, ◌++◌, map, length}
-use Rattle.std.proofs.Math.Option.{Option, none, some}
+use Rattle.std.specs.Prelude.{Option, None, Some}
 use Rattle.spec.specs.Text.{digits, line}
 use Rattle.spec.specs.Text as text
 use Rattle.spec.specs.Lir
@@ -82,8 +82,8 @@ bit_operand (Lir.constant n) = 35 ∷ digits n
 bit_operand (Lir.stored_bit s) = digits s
 
 unfoldable pub carry_operand : Option ℕ → List ℕ
-carry_operand none = 45 ∷ []
-carry_operand (some s) = digits s
+carry_operand None = 45 ∷ []
+carry_operand (Some s) = digits s
 
 -- a list is its count, then its items
 unfoldable pub listed : {A : Type 0} → (A → List ℕ) → List A → List (List ℕ)

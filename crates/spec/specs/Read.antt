@@ -1,7 +1,7 @@
 -- Reading a ticket (document 01, 'Ticket' and the reading rows of the refusal table): each refusal a test, in the table's order,
 -- and the tables that accepted lines build.
 use Rattle.std.specs.Prelude.{ℕ, zero, suc, ◌+◌, max, min, Bool, true, false, ◌&&◌, ◌||◌, not, List, [], ◌∷◌, ◌++◌, eqb, leb, ltb, length, get_or, set}
-use Rattle.std.proofs.Math.Option.{Option, none, some}
+use Rattle.std.specs.Prelude.{Option, None, Some}
 use Rattle.spec.specs.Text.{same, split, line_feed}
 use Rattle.spec.specs.Limits.{text_limit, type_lines, storage_lines, variable_lines, static_lines, place_lines, node_lines, type_size_limit, type_weight_limit, depth_limit, type_depth_limit, size_sum_limit, weight_sum_limit}
 use Rattle.spec.specs.Ticket.{TypeWord, t_unit, t_bool, t_bits, t_float, t_pointer, t_array, t_struct, t_tuple, t_opaque, PlaceWord, NodeWord, TypeLine, StorageLine, PlacedLine, PlaceLine, NodeLine, Tables, type_at, place_line_at, node_at, arg, type_size_by, weight_by}
@@ -244,8 +244,8 @@ test n b = record { refusal = n; passes = b }
 
 -- the first test that fails refuses
 unfoldable pub first_failed : List Test → Option ℕ
-first_failed [] = none
-first_failed (t ∷ ts) = elim t.passes [ true ↦ first_failed ts | false ↦ some t.refusal ]
+first_failed [] = None
+first_failed (t ∷ ts) = elim t.passes [ true ↦ first_failed ts | false ↦ Some t.refusal ]
 
 unfoldable pub refusal_of : Reading → Line → Option ℕ
 refusal_of R l =
@@ -391,13 +391,13 @@ pub data Step : Type 0 where
   go : Reading → Step
 
 abbrev pub StepBy : Reading → Line → Option ℕ → Step
-StepBy R l none = go (add R l)
-StepBy R l (some n) = stop n
+StepBy R l None = go (add R l)
+StepBy R l (Some n) = stop n
 
 -- a line without its line feed: the refusal's number, or the state behind it
 unfoldable pub step : Reading → Option Line → Step
-step R none = stop 2
-step R (some l) = StepBy R l (refusal_of R l)
+step R None = stop 2
+step R (Some l) = StepBy R l (refusal_of R l)
 
 pub data Read : Type 0 where
   refused : ℕ → ℕ → Read
@@ -416,16 +416,16 @@ left_nodes (n ∷ m ∷ ns) [] = []
 left_nodes (n ∷ m ∷ ns) (u ∷ us) = elim u [ true ↦ left_nodes (m ∷ ns) us | false ↦ n.line ∷ left_nodes (m ∷ ns) us ]
 
 unfoldable pub least : List ℕ → Option ℕ
-least [] = none
-least (x ∷ xs) = elim (least xs) [ none ↦ some x | some y ↦ some (min x y) ]
+least [] = None
+least (x ∷ xs) = elim (least xs) [ None ↦ Some x | Some y ↦ Some (min x y) ]
 
 unfoldable pub left_over : Reading → Option ℕ
 left_over R = least (left_places R.tables.places R.used.places ++ left_nodes R.tables.nodes R.used.nodes)
 
 abbrev pub end_by : Reading → Option ℕ → Bool → Read
-end_by R (some n) b = refused 7 n
-end_by R none true = refused 2 (suc R.lines)
-end_by R none false = accepted R.tables
+end_by R (Some n) b = refused 7 n
+end_by R None true = refused 2 (suc R.lines)
+end_by R None false = accepted R.tables
 
 -- the text's end: a line left over, or no node
 unfoldable pub at_end : Reading → Read

@@ -1,7 +1,7 @@
 -- A listing read back from its text: lines into fields, fields into operands. What is not in document 01's form reads as nothing.
 use Rattle.std.specs.Prelude.{ℕ, zero, suc, true, false, List, [], ◌∷◌, ◌++◌, eqb, length}
 use Prim.Native.String.{String}
-use Rattle.std.proofs.Math.Option.{Option, none, some}
+use Rattle.std.specs.Prelude.{Option, None, Some}
 use Rattle.spec.specs.Text.{same, split, numeral, line_feed, comma}
 use Rattle.spec.specs.Text as text
 use Rattle.spec.specs.Lir
@@ -19,23 +19,23 @@ abbrev pub Reader : Type 0 → Type 0 → Type 0
 Reader S A = List S → Option (Got S A)
 
 unfoldable pub then : {S A B : Type 0} → Option (Got S A) → (A → Reader S B) → Option (Got S B)
-then none f = none
-then (some g) f = f g.it g.rest
+then None f = None
+then (Some g) f = f g.it g.rest
 
 infixl 20 ◌>>=◌
 unfoldable pub ◌>>=◌ : {S A B : Type 0} → Reader S A → (A → Reader S B) → Reader S B
 ◌>>=◌ m f = λ xs. then (m xs) f
 
 unfoldable pub pure : {S A : Type 0} → A → Reader S A
-pure a = λ xs. some (record { it = a; rest = xs })
+pure a = λ xs. Some (record { it = a; rest = xs })
 
 abbrev with_rest : {S A : Type 0} → List S → Option A → Option (Got S A)
-with_rest xs none = none
-with_rest xs (some a) = some (record { it = a; rest = xs })
+with_rest xs None = None
+with_rest xs (Some a) = Some (record { it = a; rest = xs })
 
 -- the next item, as f reads it
 unfoldable pub next : {S A : Type 0} → (S → Option A) → Reader S A
-next f [] = none
+next f [] = None
 next f (x ∷ xs) = with_rest xs (f x)
 
 unfoldable pub times : {S A : Type 0} → ℕ → Reader S A → Reader S (List A)
@@ -46,8 +46,8 @@ times (suc n) m = do
   pure (a ∷ l)
 
 abbrev all_of : {S A : Type 0} → Option (Got S A) → Option A
-all_of none = none
-all_of (some g) = elim g.rest [ [] ↦ some g.it | x ∷ xs ↦ none ]
+all_of None = None
+all_of (Some g) = elim g.rest [ [] ↦ Some g.it | x ∷ xs ↦ None ]
 
 -- m, with nothing left over
 unfoldable pub whole : {S A : Type 0} → Reader S A → List S → Option A
@@ -58,7 +58,7 @@ Field = List ℕ
 
 -- the n-th of a list that has gaps, as an operator by its number
 unfoldable pub nth : {A : Type 0} → List (Option A) → ℕ → Option A
-nth [] n = none
+nth [] n = None
 nth (x ∷ xs) zero = x
 nth (x ∷ xs) (suc n) = nth xs n
 
@@ -68,38 +68,38 @@ unfoldable pub number : Reader Field ℕ
 number = next numeral
 
 abbrev pair_of : Option ℕ → Option ℕ → Option Lir.ByteStorage
-pair_of none b = none
-pair_of (some a) none = none
-pair_of (some a) (some b) = some (record { storage = a; offset = b })
+pair_of None b = None
+pair_of (Some a) None = None
+pair_of (Some a) (Some b) = Some (record { storage = a; offset = b })
 
 abbrev byte_storage_parts : List (List ℕ) → Option Lir.ByteStorage
-byte_storage_parts [] = none
-byte_storage_parts (a ∷ []) = none
+byte_storage_parts [] = None
+byte_storage_parts (a ∷ []) = None
 byte_storage_parts (a ∷ b ∷ []) = pair_of (numeral a) (numeral b)
-byte_storage_parts (a ∷ b ∷ c ∷ cs) = none
+byte_storage_parts (a ∷ b ∷ c ∷ cs) = None
 
 -- `3.1`
 unfoldable pub byte_storage_of : Field → Option Lir.ByteStorage
 byte_storage_of f = byte_storage_parts (split 46 f)
 
 abbrev pub mapped : {A B : Type 0} → (A → B) → Option A → Option B
-mapped f none = none
-mapped f (some a) = some (f a)
+mapped f None = None
+mapped f (Some a) = Some (f a)
 
 -- `#7` or `3.1`
 unfoldable pub byte_operand_of : Field → Option Lir.ByteOperand
-byte_operand_of [] = none
+byte_operand_of [] = None
 byte_operand_of (b ∷ f) = elim (eqb b 35) [ true ↦ mapped Lir.immediate (numeral f) | false ↦ mapped Lir.stored (byte_storage_of (b ∷ f)) ]
 
 -- `#1` or `3`
 unfoldable pub bit_operand_of : Field → Option Lir.BitOperand
-bit_operand_of [] = none
+bit_operand_of [] = None
 bit_operand_of (b ∷ f) = elim (eqb b 35) [ true ↦ mapped Lir.constant (numeral f) | false ↦ mapped Lir.stored_bit (numeral (b ∷ f)) ]
 
 -- `-` or `3`
 unfoldable pub carry_of : Field → Option (Option ℕ)
-carry_of [] = none
-carry_of (b ∷ f) = elim (same (b ∷ f) (45 ∷ [])) [ true ↦ some none | false ↦ mapped some (numeral (b ∷ f)) ]
+carry_of [] = None
+carry_of (b ∷ f) = elim (same (b ∷ f) (45 ∷ [])) [ true ↦ Some None | false ↦ mapped Some (numeral (b ∷ f)) ]
 
 abbrev pub byte_storage : Reader Field Lir.ByteStorage
 byte_storage = next byte_storage_of
@@ -120,8 +120,8 @@ listed m = do
   times n m
 
 abbrev pub chosen : {A : Type 0} → Option A → Reader Field A
-chosen none = λ xs. none
-chosen (some a) = pure a
+chosen None = λ xs. None
+chosen (Some a) = pure a
 
 -- an operator by its number in the list
 unfoldable pub one_of : {A : Type 0} → List (Option A) → Reader Field A
@@ -130,27 +130,27 @@ one_of ops = do
   chosen (nth ops n)
 
 unfoldable pub shift_ops : List (Option Lir.ShiftOp)
-shift_ops = some Lir.shift_left ∷ some Lir.shift_right_unsigned ∷ some Lir.shift_right_signed ∷ some Lir.rotate_left ∷ some Lir.rotate_right ∷ []
+shift_ops = Some Lir.shift_left ∷ Some Lir.shift_right_unsigned ∷ Some Lir.shift_right_signed ∷ Some Lir.rotate_left ∷ Some Lir.rotate_right ∷ []
 
 unfoldable pub compare_ops : List (Option Lir.CompareOp)
 compare_ops =
-    some Lir.equal ∷ some Lir.not_equal ∷
-    some Lir.less_than_signed ∷ some Lir.less_than_unsigned ∷ some Lir.less_than_or_equal_signed ∷ some Lir.less_than_or_equal_unsigned ∷
-    some Lir.greater_than_signed ∷ some Lir.greater_than_unsigned ∷ some Lir.greater_than_or_equal_signed ∷ some Lir.greater_than_or_equal_unsigned ∷ []
+    Some Lir.equal ∷ Some Lir.not_equal ∷
+    Some Lir.less_than_signed ∷ Some Lir.less_than_unsigned ∷ Some Lir.less_than_or_equal_signed ∷ Some Lir.less_than_or_equal_unsigned ∷
+    Some Lir.greater_than_signed ∷ Some Lir.greater_than_unsigned ∷ Some Lir.greater_than_or_equal_signed ∷ Some Lir.greater_than_or_equal_unsigned ∷ []
 
 unfoldable pub unary_ops : List (Option Lir.IntegerUnaryBytesOp)
-unary_ops = none ∷ none ∷ some Lir.count_leading_zeros ∷ some Lir.count_trailing_zeros ∷ some Lir.population_count ∷ []
+unary_ops = None ∷ None ∷ Some Lir.count_leading_zeros ∷ Some Lir.count_trailing_zeros ∷ Some Lir.population_count ∷ []
 
 unfoldable pub binary_ops : List (Option Lir.IntegerBinaryBytesOp)
 binary_ops =
-    none ∷ none ∷ some Lir.multiply ∷ some Lir.divide_signed ∷ some Lir.divide_unsigned ∷ some Lir.remainder_signed ∷ some Lir.remainder_unsigned ∷
-    none ∷ none ∷ none ∷ none ∷ none ∷ none ∷ none ∷ none ∷
-    some Lir.saturating_add_signed ∷ some Lir.saturating_add_unsigned ∷ some Lir.saturating_subtract_signed ∷ some Lir.saturating_subtract_unsigned ∷ []
+    None ∷ None ∷ Some Lir.multiply ∷ Some Lir.divide_signed ∷ Some Lir.divide_unsigned ∷ Some Lir.remainder_signed ∷ Some Lir.remainder_unsigned ∷
+    None ∷ None ∷ None ∷ None ∷ None ∷ None ∷ None ∷ None ∷
+    Some Lir.saturating_add_signed ∷ Some Lir.saturating_add_unsigned ∷ Some Lir.saturating_subtract_signed ∷ Some Lir.saturating_subtract_unsigned ∷ []
 
 unfoldable pub purposes : List (Option Lir.Purpose)
 purposes =
-    some Lir.tmp ∷ some Lir.add_carry ∷ some Lir.subtract_borrow ∷ some Lir.negate_borrow ∷ some Lir.pointer_carry ∷
-    some Lir.compare ∷ some Lir.integer_to_boolean ∷ some Lir.condition ∷ some Lir.read_bool ∷ []
+    Some Lir.tmp ∷ Some Lir.add_carry ∷ Some Lir.subtract_borrow ∷ Some Lir.negate_borrow ∷ Some Lir.pointer_carry ∷
+    Some Lir.compare ∷ Some Lir.integer_to_boolean ∷ Some Lir.condition ∷ Some Lir.read_bool ∷ []
 
 -- ---------------------------------------------------------------- instructions
 
@@ -294,12 +294,12 @@ instruction_words =
     []
 
 unfoldable pub find : {A : Type 0} → List (Word A) → Field → Reader Field A
-find [] f = λ xs. none
+find [] f = λ xs. None
 find (w ∷ ws) f = elim (same (text.bytes w.name) f) [ true ↦ w.reads | false ↦ find ws f ]
 
 -- a word of the list, then its fields
 unfoldable pub headed : {A : Type 0} → List (Word A) → Reader Field A
-headed ws [] = none
+headed ws [] = None
 headed ws (f ∷ fs) = find ws f fs
 
 abbrev pub instruction_kind : Reader Field Lir.InstructionKind
@@ -312,8 +312,8 @@ Line = List Field
 
 -- a line that begins with a word, its fields read by m
 unfoldable pub line_of : {A : Type 0} → String → Reader Field A → Line → Option A
-line_of w m [] = none
-line_of w m (f ∷ fs) = elim (same (text.bytes w) f) [ true ↦ whole m fs | false ↦ none ]
+line_of w m [] = None
+line_of w m (f ∷ fs) = elim (same (text.bytes w) f) [ true ↦ whole m fs | false ↦ None ]
 
 abbrev more : {A : Type 0} → A → Got Line (List A) → Got Line (List A)
 more a g = record { it = a ∷ g.it; rest = g.rest }
@@ -321,21 +321,21 @@ more a g = record { it = a ∷ g.it; rest = g.rest }
 -- as many lines as f reads, then the rest
 unfoldable pub lines_of : {A : Type 0} → (Line → Option A) → List Line → Got Line (List A)
 lines_of f [] = record { it = []; rest = [] }
-lines_of f (l ∷ ls) = elim (f l) [ none ↦ record { it = []; rest = l ∷ ls } | some a ↦ more a (lines_of f ls) ]
+lines_of f (l ∷ ls) = elim (f l) [ None ↦ record { it = []; rest = l ∷ ls } | Some a ↦ more a (lines_of f ls) ]
 
 unfoldable pub several : {A : Type 0} → (Line → Option A) → Reader Line (List A)
-several f ls = some (lines_of f ls)
+several f ls = Some (lines_of f ls)
 
 -- KIND and LENGTH: a length only where there are several bytes
 unfoldable pub kind_of : ℕ → ℕ → Option Lir.StorageKind
-kind_of zero zero = some Lir.bit
-kind_of zero (suc n) = none
-kind_of (suc zero) zero = some Lir.byte
-kind_of (suc zero) (suc n) = none
-kind_of (suc (suc zero)) n = some (Lir.bytes n)
-kind_of (suc (suc (suc zero))) zero = some Lir.carry
-kind_of (suc (suc (suc zero))) (suc n) = none
-kind_of (suc (suc (suc (suc k)))) n = none
+kind_of zero zero = Some Lir.bit
+kind_of zero (suc n) = None
+kind_of (suc zero) zero = Some Lir.byte
+kind_of (suc zero) (suc n) = None
+kind_of (suc (suc zero)) n = Some (Lir.bytes n)
+kind_of (suc (suc (suc zero))) zero = Some Lir.carry
+kind_of (suc (suc (suc zero))) (suc n) = None
+kind_of (suc (suc (suc (suc k)))) n = None
 
 unfoldable pub storage : Reader Field Lir.Storage
 storage = do
@@ -415,7 +415,7 @@ shaped m ty (parted n) = do
 
 -- a value as deep as k
 unfoldable pub value : ℕ → Reader Line Lir.Value
-value zero = λ ls. none
+value zero = λ ls. None
 value (suc k) = do
   t ← next (line_of "value" top)
   shaped (value k) t.ty t.shape
@@ -437,8 +437,8 @@ fields_of_lines (l ∷ ls) = split comma l ∷ fields_of_lines ls
 
 -- the lines of a text that ends in a line feed
 unfoldable pub lines_in : List (List ℕ) → Option (List (List ℕ))
-lines_in [] = none
-lines_in (l ∷ []) = elim l [ [] ↦ some [] | x ∷ xs ↦ none ]
+lines_in [] = None
+lines_in (l ∷ []) = elim l [ [] ↦ Some [] | x ∷ xs ↦ None ]
 lines_in (l ∷ m ∷ ls) = mapped (λ ks. l ∷ ks) (lines_in (m ∷ ls))
 
 -- the lines of a text, each as its fields
@@ -447,8 +447,8 @@ lines s = mapped fields_of_lines (lines_in (split line_feed s))
 
 -- no value is deeper than there are lines
 abbrev read_lines : Option (List Line) → Option Lir.Listing
-read_lines none = none
-read_lines (some ls) = whole (listing (length ls)) ls
+read_lines None = None
+read_lines (Some ls) = whole (listing (length ls)) ls
 
 unfoldable pub read_listing : List ℕ → Option Lir.Listing
 read_listing s = read_lines (lines s)
@@ -470,8 +470,8 @@ plain_lines [] = []
 plain_lines (l ∷ ls) = plain_line l ++ plain_lines ls
 
 abbrev pub plain_of : Option (List Line) → List ℕ
-plain_of none = []
-plain_of (some ls) = plain_lines ls
+plain_of None = []
+plain_of (Some ls) = plain_lines ls
 
 -- a listing's text, each instruction's line without its node
 unfoldable pub without_nodes : List ℕ → List ℕ

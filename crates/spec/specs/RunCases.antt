@@ -1,7 +1,7 @@
 -- Examples: tables, expressions and memories, each with the number that the run must leave.
 use Rattle.std.specs.Prelude.{ℕ, ◌+◌, ◌%◌, Bool, true, false, ◌&&◌, List, [], ◌∷◌, ◌++◌, eqb, get_or}
 use Prim.Native.String.{String}
-use Rattle.std.proofs.Math.Option.{Option, none, some}
+use Rattle.std.specs.Prelude.{Option, None, Some}
 use Rattle.spec.specs.Hir.{At, Expr, boolean, integer, read, integer_unary, integer_binary, compare, convert, variable, element}
 use Rattle.spec.specs.Hir as hir
 use Rattle.spec.specs.Ticket.{Tables, TypeLine, PlacedLine, t_bool, t_bits, t_pointer, t_array, n_bool, nowhere}
@@ -60,11 +60,11 @@ given = record { base = λ s. 65500 + s; function = λ f. 1000 + f }
 -- ---------------------------------------------------------------- what a case shows
 
 abbrev pub after_run : Value → Option Memory → Option Data
-after_run v none = none
-after_run v (some M) = some (data_of M v)
+after_run v None = None
+after_run v (Some M) = Some (data_of M v)
 
 abbrev pub after_lowering : Memory → Outcome Value → Option Data
-after_lowering M (refused n l) = none
+after_lowering M (refused n l) = None
 after_lowering M (done v c o) = after_run v (run given o.instructions M)
 
 -- lowered, and run
@@ -84,8 +84,8 @@ same_data (number k x) (parts ds) = false
 same_data (parts ds) d = false
 
 abbrev pub is_it : Option Data → Data → Bool
-is_it none d = false
-is_it (some c) d = same_data c d
+is_it None d = false
+is_it (Some c) d = same_data c d
 
 -- every premise holds, and both the meaning and the run give d
 pub record Case : Type 0 where

@@ -1,6 +1,6 @@
 -- What is claimed of running: the whole rule, and the bytes left in the buffer.
 use Rattle.std.specs.Prelude.{ℕ, ◌≤◌, ◌<◌, true, List, ◌≡◌, length}
-use Rattle.std.proofs.Math.Option.{some}
+use Rattle.std.specs.Prelude.{Some}
 use Rattle.spec.specs.Hir.{At, Expr}
 use Rattle.spec.specs.Ticket.{Tables}
 use Rattle.spec.specs.Readable.{TypesRight}
@@ -20,7 +20,7 @@ use Rattle.spec.specs.RunNeeds.{NeedsOf, bools_in_range}
 -- run in M, the instructions leave d in the value's pieces, and the storages below n as they were
 pub record Ran (G : Given) (M : Memory) (n : ℕ) (v : Value) (o : Out) (d : Data) : Type 0 where
   pub after : Memory
-  pub runs : run G o.instructions M ≡ some after
+  pub runs : run G o.instructions M ≡ Some after
   pub holds : data_of after v ≡ d
   pub bytes : (k i : ℕ) → k < n → after.byte k i ≡ M.byte k i
   pub bits : (k : ℕ) → k < n → after.bit k ≡ M.bit k
@@ -28,7 +28,7 @@ pub record Ran (G : Given) (M : Memory) (n : ℕ) (v : Value) (o : Out) (d : Dat
 -- lowered where the next storage is no older one, and run in a proper memory where its reads are in order: what it means
 abbrev pub RunsAs : Tables → Expr → Type 0
 RunsAs T e =
-    (G : Given) (M : Memory) → Proper M → in_order T M e ≡ true → (d : Data) → eval T G M e ≡ some d
+    (G : Given) (M : Memory) → Proper M → in_order T M e ≡ true → (d : Data) → eval T G M e ≡ Some d
     → (h : At) (c : Counters) → length T.storages ≤ c.storage → (v : Value) (c' : Counters) (o : Out) → lower_expression T e h c ≡ done v c' o
     → Ran G M c.storage v o d
 
@@ -42,5 +42,5 @@ RunsWhole =
     (ticket buffer s : List ℕ) (T : Tables) → read_ticket ticket ≡ reading.accepted T → answer ticket (length buffer) ≡ accepted s
     → typed T (root T) ≡ true
     → (G : Given) (M : Memory) → Proper M → in_order T M (root T) ≡ true
-    → (d : Data) → eval T G M (root T) ≡ some d
+    → (d : Data) → eval T G M (root T) ≡ Some d
     → Leaves G M (length T.storages) s d

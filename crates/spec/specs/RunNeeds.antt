@@ -1,6 +1,6 @@
 -- What running needs of a readable ticket besides its types, and of an expression besides its types.
 use Rattle.std.specs.Prelude.{ℕ, ◌<◌, Bool, true, ◌&&◌, ◌≡◌, leb, length}
-use Rattle.std.proofs.Math.Option.{some}
+use Rattle.std.specs.Prelude.{Some}
 use Rattle.spec.specs.Hir.{Expr, boolean, integer, float32, float64, null_pointer, static_address, function_address, read, integer_unary, integer_binary, float_unary, float_binary, compare, convert, select, address_of, pointer_offset, aggregate, extract_element, insert_element, Exprs, no_exprs, ◌∷ᵉ◌}
 use Rattle.spec.specs.Ticket.{PlacedLine, Tables}
 use Rattle.spec.specs.Operands.{nth}
@@ -11,8 +11,8 @@ pub record Placed (T : Tables) (p : PlacedLine) : Type 0 where
   pub bit_bool : p.bit ≡ 1 → p.type ≡ 0
 
 pub record NeedsOf (T : Tables) : Type 0 where
-  pub variables : (k : ℕ) (p : PlacedLine) → nth T.variables k ≡ some p → Placed T p
-  pub statics : (k : ℕ) (p : PlacedLine) → nth T.statics k ≡ some p → Placed T p
+  pub variables : (k : ℕ) (p : PlacedLine) → nth T.variables k ≡ Some p → Placed T p
+  pub statics : (k : ℕ) (p : PlacedLine) → nth T.statics k ≡ Some p → Placed T p
 
 -- every `bool` that lowering comes to is 0 or 1: reading sees to it
 unfoldable mutual

@@ -1,6 +1,6 @@
 -- `lower_select` and `select_to_location`; addresses; `lower_pointer_offset`.
 use Rattle.std.specs.Prelude.{ℕ, Bool, true, false, ◌&&◌, not, List, [], ◌∷◌, eqb, leb, length, get_or, take}
-use Rattle.std.proofs.Math.Option.{Option, none, some}
+use Rattle.std.specs.Prelude.{Option, None, Some}
 use Rattle.spec.specs.Hir.{Place}
 use Rattle.spec.specs.Ticket.{Tables, storage_at}
 use Rattle.spec.specs.Lir.{ByteStorage, BitOperand, ValueOperand, bit_operand, byte_operand, ValueStorage, bit_storage, byte_storage, InstructionKind, address_of, function_address, select_byte, select_bit, Value, flatten_value_operands, pointer_carry}
@@ -14,12 +14,12 @@ use Rattle.spec.specs.Arithmetic.{adds, first_storage}
 -- ---------------------------------------------------------------- select
 
 unfoldable pub select_piece : BitOperand → ValueStorage → ValueOperand → ValueOperand → Option InstructionKind
-select_piece c (bit_storage d) (bit_operand t) (bit_operand f) = some (select_bit d c t f)
-select_piece c (bit_storage d) (bit_operand t) (byte_operand f) = none
-select_piece c (bit_storage d) (byte_operand t) f = none
-select_piece c (byte_storage d) (byte_operand t) (byte_operand f) = some (select_byte d c t f)
-select_piece c (byte_storage d) (byte_operand t) (bit_operand f) = none
-select_piece c (byte_storage d) (bit_operand t) f = none
+select_piece c (bit_storage d) (bit_operand t) (bit_operand f) = Some (select_bit d c t f)
+select_piece c (bit_storage d) (bit_operand t) (byte_operand f) = None
+select_piece c (bit_storage d) (byte_operand t) f = None
+select_piece c (byte_storage d) (byte_operand t) (byte_operand f) = Some (select_byte d c t f)
+select_piece c (byte_storage d) (byte_operand t) (bit_operand f) = None
+select_piece c (byte_storage d) (bit_operand t) f = None
 
 unfoldable pub select_pieces : BitOperand → List ValueStorage → List ValueOperand → List ValueOperand → Lower Unit
 select_pieces c [] ts fs = pure tt

@@ -2,7 +2,7 @@
 use Rattle.std.specs.Prelude.{ℕ, zero, suc, ◌+◌, ◌-◌, ◌*◌, ◌/◌, ◌%◌, ◌^◌, Bool, true, false, ◌&&◌, not, List, [], ◌∷◌, ◌++◌, eqb, leb, ltb}
 use Prim.Native.Char.{code}
 use Prim.Native.String.{String, [] as []ˢ, ◌∷◌ as ◌∷ˢ◌}
-use Rattle.std.proofs.Math.Option.{Option, none, some}
+use Rattle.std.specs.Prelude.{Option, None, Some}
 
 abbrev pub line_feed : ℕ
 line_feed = 10
@@ -77,11 +77,11 @@ good_start (d ∷ e ∷ ds) = not (eqb d 48)
 
 -- a decimal number without leading zeros
 unfoldable pub numeral : List ℕ → Option ℕ
-numeral f = elim (good_start f && all_digits f) [ true ↦ some (horner 0 f) | false ↦ none ]
+numeral f = elim (good_start f && all_digits f) [ true ↦ Some (horner 0 f) | false ↦ None ]
 
 abbrev pub below-2^64 : Option ℕ → Option ℕ
-below-2^64 none = none
-below-2^64 (some n) = elim (ltb n (2 ^ 64)) [ true ↦ some n | false ↦ none ]
+below-2^64 None = None
+below-2^64 (Some n) = elim (ltb n (2 ^ 64)) [ true ↦ Some n | false ↦ None ]
 
 -- a number in a ticket's form
 unfoldable pub number : List ℕ → Option ℕ

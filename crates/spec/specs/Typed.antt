@@ -1,6 +1,6 @@
 -- Document 01's 'rightly typed' and 'single operation', as tests of an expression.
 use Rattle.std.specs.Prelude.{ℕ, suc, Bool, true, false, ◌&&◌, ◌||◌, List, eqb, leb, ltb}
-use Rattle.std.proofs.Math.Option.{Option, none, some}
+use Rattle.std.specs.Prelude.{Option, None, Some}
 use Rattle.spec.specs.Hir.{At, Expr, boolean, integer, float32, float64, null_pointer, static_address, function_address, read, integer_unary, integer_binary, float_unary, float_binary, compare, convert, select, address_of, pointer_offset, aggregate, extract_element, insert_element, Exprs, no_exprs, ◌∷ᵉ◌, ConversionOp}
 use Rattle.spec.specs.Hir as hir
 use Rattle.spec.specs.Ticket.{TypeWord, t_unit, t_bool, t_bits, t_float, t_pointer, t_array, t_struct, t_tuple, t_opaque, Tables, type_at, arg}
@@ -46,18 +46,18 @@ is_bits_word t_opaque = false
 
 -- the type of part i: of an array's element, a struct's or a tuple's field
 abbrev array_part : ℕ → ℕ → ℕ → Option ℕ
-array_part element len i = elim (ltb i len) [ true ↦ some element | false ↦ none ]
+array_part element len i = elim (ltb i len) [ true ↦ Some element | false ↦ None ]
 
 abbrev pub part_of_word : TypeWord → List ℕ → ℕ → Option ℕ
-part_of_word t_unit xs i = none
-part_of_word t_bool xs i = none
-part_of_word t_bits xs i = none
-part_of_word t_float xs i = none
-part_of_word t_pointer xs i = none
+part_of_word t_unit xs i = None
+part_of_word t_bool xs i = None
+part_of_word t_bits xs i = None
+part_of_word t_float xs i = None
+part_of_word t_pointer xs i = None
 part_of_word t_array xs i = array_part (arg xs 0) (arg xs 1) i
 part_of_word t_struct xs i = nth xs i
 part_of_word t_tuple xs i = nth xs i
-part_of_word t_opaque xs i = none
+part_of_word t_opaque xs i = None
 
 -- a type with elements or fields, if only none of them: an aggregate of another TYPE matches nothing
 abbrev pub has_parts : TypeWord → Bool
@@ -72,8 +72,8 @@ has_parts t_tuple = true
 has_parts t_opaque = false
 
 abbrev is_type : Option ℕ → ℕ → Bool
-is_type none ty = false
-is_type (some t) ty = eqb t ty
+is_type None ty = false
+is_type (Some t) ty = eqb t ty
 
 module _ (T : Tables) where
   unfoldable pub is_bits : ℕ → Bool
@@ -129,7 +129,7 @@ module _ (T : Tables) where
 
     -- the parts from i on are those of the type, no more and no fewer
     pub parts_typed : Exprs → ℕ → ℕ → Bool
-    parts_typed no_exprs ty i = elim (part_type ty i) [ none ↦ true | some t ↦ false ]
+    parts_typed no_exprs ty i = elim (part_type ty i) [ None ↦ true | Some t ↦ false ]
     parts_typed (e ∷ᵉ es) ty i = is_type (part_type ty i) (type_of e) && typed e && parts_typed es ty (suc i)
 
 -- ---------------------------------------------------------------- a single operation

@@ -1,56 +1,42 @@
 -- What the steps leave.
-use mathlib.Core.Path.{◌≡◌, refl, sym, ap, subst, ◌∙◌}
-use mathlib.Core.List.{List, append-nil}
-use mathlib.Core.Option.{none, some}
-use Prim.Native.Nat.{ℕ, zero, suc, ◌+◌, ◌/◌, ◌^◌, ◌≤◌, ◌<◌}
-use native.Mathlib.Omega.{arith}
+use Rattle.std.specs.Prelude.{◌≡◌, refl, List, ℕ, zero, suc, ◌+◌, ◌-◌, ◌/◌, ◌^◌, ◌≤◌, ◌<◌, Option, None, Some, Result, Ok}
+use Rattle.std.specs.Option.{option_map}
+use Rattle.std.proofs.Common.{sym, ap, subst, ◌∙◌, arith}
 use native.Mathlib.Nat.{div-div-eq-div-mul, pow-suc, div-one}
 use borrow.Author.Tests.{lt-ltb, le-leb, lt-leb}
 use lib.ListN.{get_or-eq_default}
+use Rattle.answers.specs.declared.Refusal.{Refusal}
 use Rattle.spec.specs.Hir as hir
 use Rattle.spec.specs.Hir.{Place, variable, static, field, element, byte_offset, null_pointer}
 use Rattle.spec.specs.Ticket as ticket
-use Rattle.spec.specs.Ticket.{Tables, place_at, nowhere}
-use Rattle.spec.specs.Readable.{Readable}
-use Rattle.spec.specs.Lir.{ByteOperand, Value, value, bytes_value, bit_value, stored_bit, Purpose, condition, integer_to_boolean}
+use Rattle.spec.specs.Ticket.{Tables, type_at, place_at, nowhere}
+use Rattle.spec.specs.Lir.{ByteOperand, value, bytes_value}
 use Rattle.spec.specs.Monad.{Lower, Outcome, done, refused, nothing, prepend, bind_to, ◌>>=◌, ◌>>◌, or_refuse, require}
 use Rattle.spec.specs.Monad as monad
-use Rattle.spec.specs.Operands.{value_type, value_repr, repr_bytes, repr_bit, value_bytes, integer_bytes}
+use Rattle.spec.specs.Operands.{value_type, integer_bytes}
 use Rattle.spec.specs.Operators.{compare_op}
-use Rattle.spec.specs.Allocation.{Location, bool_type, width_of, integer_width, allocate_storage, allocate_bit_temporary}
+use Rattle.spec.specs.Allocation.{Location, type_size, width_of, allocate_storage, allocate_bit_temporary}
 use Rattle.spec.specs.Places.{with_type, location_in, resolve_place}
-use Rattle.spec.specs.ReadBytes.{read_location}
-use Rattle.spec.specs.Conversions.{not_zero, value_as_bit, integer_to_bool, lower_compare}
-use Rattle.spec.specs.Lower.{lower_integer, lower_read, lower_expression}
+use Rattle.spec.specs.Lower.{lower_integer, lower_expression}
 use Rattle.lir.specs.Abstract.{tab, byte_at, bytes_of}
-use Rattle.lir.specs.declared.BitOperand.{BitOperand as Bit}
 use Rattle.lir.specs.declared.Source.{Source}
-use Rattle.emission.specs.declared.Counters.{Counters}
-use Rattle.emission.specs.declared.Allocated.{Allocated}
-use Rattle.emission.specs.declared.Temporary.{Temporary}
-use Rattle.emission.specs.declared.Width.{Width}
-use Rattle.emission.specs.Appends.{Texts, texts, counters_of}
-use Rattle.emission.specs.Does.{Does, Refuses}
-use Rattle.emission.specs.Forms.{HasWidth, width_option, comparing, comparing_zero, prepend_nothing, compare_behind, not_zero_behind}
-use Rattle.tables.specs.declared.Counts.{Counts}
-use Rattle.tables.specs.Tables.{type_kind_at, type_word, type_args, tables_of, size_at}
+use Rattle.emission.specs.Forms.{HasWidth, comparing}
+use Rattle.tables.specs.declared.TypeKind.{TypeKind}
+use Rattle.tables.specs.declared.lookups.Tables as code
+use Rattle.tables.specs.Ticket.{ticket_of}
+use Rattle.tables.specs.Tables.{type_kind_at, type_word, type_args, size_at}
 use Rattle.tables.proofs.Laws.{Looks, looks_here, size_here}
-use Rattle.places.specs.declared.Resolved.{Resolved}
-use Rattle.places.specs.declared.Location.{Location as Loc}
+use Rattle.places.specs.declared.found.Location.{Location as Loc}
 use Rattle.places.specs.Answers.{outcome_of}
-use Rattle.places.specs.Abstract.{location_from, resolved_answer, location_at, Locates}
-use Rattle.values.specs.declared.State.{State}
+use Rattle.places.specs.Abstract.{location_from, location_at}
+use Rattle.values.specs.declared.Lowering.{Lowering}
 use Rattle.values.specs.declared.Value.{Value as Val}
 use Rattle.values.specs.declared.Repr.{Repr as Rep}
-use Rattle.values.specs.declared.Lowered.{Lowered}
-use Rattle.values.specs.declared.BitLowered.{BitLowered}
 use Rattle.values.specs.Heads.{bytes_shape, shape_in, head_of, flat_of}
-use Rattle.values.specs.Left.{Bufs, bufs, counters_in, MeetsValue, MeetsBit}
-use Rattle.values.specs.Laws.{Placed, left_none, left_does}
+use Rattle.values.specs.Left.{counters_in, MeetsValue}
 use Rattle.reads.specs.Reading.{TypeRoom}
 use Rattle.reads.proofs.Laws.{leaf_meets}
-use Rattle.steps.specs.declared.Flag.{Flag}
-use Rattle.steps.specs.Steps.{constant_of, bool_in, behind_new, HasBit, MeetsNew, NewBy}
+use Rattle.steps.specs.Steps.{constant_of}
 
 -- ---------------------------------------------------------------- constants
 
@@ -64,28 +50,25 @@ unfolding bytes_of
 constant_bytes v n = let h = constant_tab v n 0 n (omega arith) in rw (div-one v) at h
 
 -- a number as so many bytes
-constant_meets : {b : Bufs} {s : State} {r : Lowered} (ty v n : ℕ) → n ≤ 16 → Placed b s → r ≡ Lowered.Done (constant_of ty v n) s
-    → MeetsValue b s (done (value ty (bytes_value (integer_bytes v n))) (counters_in s) nothing) b r
-constant_meets ty v n k g q =
-    leaf_meets (constant_of ty v n) (value ty (bytes_value (integer_bytes v n))) g
-    (ap (λ (z : List ByteOperand). record { ty = ty; shape = bytes_shape z }) (constant_bytes v n)) (record { reach_most = omega arith; total_most = omega arith }) refl q
+constant_meets : (l : Lowering) (ty v n : ℕ) → n ≤ 16 → MeetsValue l (done (value ty (bytes_value (integer_bytes v n))) (counters_in l) nothing) l (Ok (constant_of ty v n))
+constant_meets l ty v n k =
+    leaf_meets l (constant_of ty v n) (value ty (bytes_value (integer_bytes v n)))
+    (ap (λ (z : List ByteOperand). record { ty = ty; shape = bytes_shape z }) (constant_bytes v n)) (record { reach_most = omega arith; total_most = omega arith }) refl
 
-module _ (rows nodes lists : List ℕ) (c : Counts) (v ty : ℕ) (h : hir.At) where
-  pub integer_meets : {b : Bufs} {s : State} {r : Lowered} → size_at rows c ty ≤ 16 → Placed b s → r ≡ Lowered.Done (constant_of ty v (size_at rows c ty)) s
-      → MeetsValue b s (lower_integer (tables_of rows nodes lists c) v ty h (counters_in s)) b r
+module _ (t : code.Tables) (v ty : ℕ) (h : hir.At) where
+  pub integer_meets : (l : Lowering) {size : ℕ} → size ≡ size_at t.rows.now t.counts ty → size ≤ 16 → MeetsValue l (lower_integer (ticket_of t) v ty h (counters_in l)) l (Ok (constant_of ty v size))
   unfolding lower_integer require ◌>>◌
-  integer_meets k g q = rw (size_here rows nodes lists c ty, le-leb (size_at rows c ty) 16 k) (constant_meets ty v (size_at rows c ty) k g q)
+  integer_meets l {size} e k = let g : type_size (ticket_of t) ty ≡ size = size_here t.rows.now t.lists.now t.counts ty ∙ sym e in rw (g, le-leb size 16 k) (constant_meets l ty v size k)
 
-  pub integer_refused : (n : monad.Counters) → 16 < size_at rows c ty → lower_integer (tables_of rows nodes lists c) v ty h n ≡ refused 26 h.line
+  pub integer_refused : (n : monad.Counters) {size : ℕ} → size ≡ size_at t.rows.now t.counts ty → 16 < size → lower_integer (ticket_of t) v ty h n ≡ refused 26 h.line
   unfolding lower_integer require ◌>>◌
-  integer_refused n k = rw (size_here rows nodes lists c ty, lt-leb (size_at rows c ty) 16 k)
+  integer_refused n {size} e k = let g : type_size (ticket_of t) ty ≡ size = size_here t.rows.now t.lists.now t.counts ty ∙ sym e in rw (g, lt-leb size 16 k)
 
-pub null_meets : {b : Bufs} {s : State} {r : Lowered} (T : Tables) (h from : hir.At) → Placed b s → r ≡ Lowered.Done (constant_of h.ty 0 2) s
-    → MeetsValue b s (lower_expression T (null_pointer h) from (counters_in s)) b r
+pub null_meets : (l : Lowering) (T : Tables) (h from : hir.At) → MeetsValue l (lower_expression T (null_pointer h) from (counters_in l)) l (Ok (constant_of h.ty 0 2))
 unfolding lower_expression integer_bytes
-null_meets T h from g q = constant_meets h.ty 0 2 (omega arith) g q
+null_meets l T h from = constant_meets l h.ty 0 2 (omega arith)
 
--- ---------------------------------------------------------------- heads and widths
+-- ---------------------------------------------------------------- widths
 
 type_in : (ty : ℕ) (r : Rep) → value_type (flat_of (record { ty = ty; shape = shape_in r })) ≡ ty
 type_in ty Rep.Unit = refl
@@ -93,8 +76,14 @@ type_in ty (Rep.Bit b) = refl
 type_in ty (Rep.Bytes b) = refl
 type_in ty (Rep.Aggregate n m) = refl
 
-pub wide : {T : Tables} {w : Width} (v : Val) → HasWidth T v.ty w → HasWidth T (value_type (flat_of (head_of v))) w
-wide {T} {w} v h = subst (λ (t : ℕ). HasWidth T t w) (sym (type_in v.ty v.repr)) h
+same_option : {A : Type 0} (o : Option A) → o ≡ option_map (λ x. x) o
+same_option None = refl
+same_option (Some x) = refl
+
+-- the width of a value's type
+pub wide : {T : Tables} {o : Option ℕ} (v : Val) → HasWidth T v.ty o
+    → width_of (type_at T (value_type (flat_of (head_of v)))).word (type_at T (value_type (flat_of (head_of v)))).args ≡ option_map (λ x. x) o
+wide {o = o} v w = rw (type_in v.ty v.repr) (w.is ∙ same_option o)
 
 looks_width : Looks width_of
 looks_width =
@@ -108,111 +97,47 @@ looks_width =
       opaque = λ xs. refl;
     }
 
-pub has_width : (rows nodes lists : List ℕ) (c : Counts) (ty : ℕ) {w : Width} → width_of (type_word (type_kind_at rows lists c ty)) (type_args lists (type_kind_at rows lists c ty)) ≡ width_option w
-    → HasWidth (tables_of rows nodes lists c) ty w
-has_width rows nodes lists c ty e = record { is = looks_here rows nodes lists c looks_width ty ∙ e }
+pub has_width : (t : code.Tables) (ty : ℕ) {o : Option ℕ} → width_of (type_word (type_kind_at t.rows.now t.lists.now t.counts ty)) (type_args t.lists.now (type_kind_at t.rows.now t.lists.now t.counts ty)) ≡ o
+    → HasWidth (ticket_of t) ty o
+has_width t ty e = record { is = looks_here t.rows.now t.lists.now t.counts looks_width ty ∙ e }
 
--- ---------------------------------------------------------------- a new bit
-
-module _ {T : Tables} (purpose : Purpose) (v : Value) {t t1 : Texts} {c c1 : Counters} where
-  pub zero_does : {w k : ℕ} {bs : List ByteOperand} → HasWidth T (value_type v) (Width.Found w) → repr_bytes (value_repr v) ≡ some bs
-      → Does 1 t c (comparing_zero purpose w bs) k t1 c1 → Does 1 t c (not_zero T purpose v) k t1 c1
-  zero_does w e d =
-      record {
-        storages = d.storages;
-        kinds = d.kinds;
-        is = λ h. not_zero_behind T purpose v h (counters_of c) w e ∙ d.is h;
-        appends = d.appends;
-        node = d.node;
-        few_storages = d.few_storages;
-        few_kinds = d.few_kinds;
-      }
-
-module _ {T : Tables} (purpose : Purpose) (v : Value) {c : Counters} where
-  pub zero_no_width : HasWidth T (value_type v) Width.Absent → Refuses c (not_zero T purpose v) 23
-  unfolding not_zero integer_width or_refuse ◌>>=◌
-  zero_no_width w = record { is = λ h. rw w.is }
-
-  pub zero_no_bytes : {w : ℕ} → HasWidth T (value_type v) (Width.Found w) → repr_bytes (value_repr v) ≡ none → Refuses c (not_zero T purpose v) 24
-  unfolding not_zero integer_width value_bytes or_refuse ◌>>=◌
-  zero_no_bytes w e = record { is = λ h. rw (w.is, e) }
-
-new_done : {t t1 : Texts} {c : Counters} {m : Lower ℕ} {r : Temporary} {a : Allocated} → MeetsNew t c m t1 r → r ≡ Temporary.Placed a → Does 1 t c m a.id.0 t1 a.counters
-new_done {t} {t1} {c} {m} {r} {a} k e = subst (λ (z : Temporary). NewBy t c m t1 z) e k.shown
-
-new_refused : {t t1 : Texts} {c : Counters} {m : Lower ℕ} {r : Temporary} {n : ℕ} → MeetsNew t c m t1 r → r ≡ Temporary.Refused n → Refuses c m n
-new_refused {t} {t1} {c} {m} {r} {n} k e = subst (λ (z : Temporary). NewBy t c m t1 z) e k.shown
-
-module _ (T : Tables) (v : Value) (h : hir.At) (s : State) {code store code' store' : List ℕ} (n stack : List ℕ) {r : Temporary} where
-  pub bit_new : {a : Allocated} {x : BitLowered} → h.node ≡ s.counters.node.0 → repr_bit (value_repr v) ≡ none → MeetsNew (texts code store) s.counters (not_zero T condition v) (texts code' store') r → r ≡ Temporary.Placed a
-      → x ≡ BitLowered.Done (Bit.Storage a.id) (behind_new s a)
-      → MeetsBit (bufs code store n stack) s (value_as_bit T v h (counters_in s)) (bufs code' store' n stack) x
-  unfolding value_as_bit ◌>>=◌
-  bit_new g e m q p =
-      let d = new_done m q in
-      rw (p, e, d.is h, append-nil d.storages, append-nil (monad.made_all h d.kinds)) (record { shown = (refl, left_does {s = s} n stack h g d) })
-
-  pub bit_stopped : {k : ℕ} {b : Bufs} → repr_bit (value_repr v) ≡ none → MeetsNew (texts code store) s.counters (not_zero T condition v) (texts code' store') r → r ≡ Temporary.Refused k
-      → MeetsBit (bufs code store n stack) s (value_as_bit T v h (counters_in s)) b (BitLowered.Refused k h.line)
-  unfolding value_as_bit ◌>>=◌
-  bit_stopped e m q = rw (e, (new_refused m q).is h) (record { shown = (refl, refl) })
-
-  pub bool_new : {a : Allocated} {x : Lowered} → h.node ≡ s.counters.node.0 → MeetsNew (texts code store) s.counters (not_zero T integer_to_boolean v) (texts code' store') r → r ≡ Temporary.Placed a
-      → x ≡ Lowered.Done (bool_in a.id) (behind_new s a)
-      → MeetsValue (bufs code store n stack) s (integer_to_bool T v h (counters_in s)) (bufs code' store' n stack) x
-  unfolding integer_to_bool ◌>>=◌
-  bool_new g m q p =
-      let d = new_done m q in
-      rw (p, d.is h, append-nil d.storages, append-nil (monad.made_all h d.kinds)) (record { shown = (refl, tt, left_does {s = s} n stack h g d) })
-
-  pub bool_stopped : {k : ℕ} {b : Bufs} → MeetsNew (texts code store) s.counters (not_zero T integer_to_boolean v) (texts code' store') r → r ≡ Temporary.Refused k
-      → MeetsValue (bufs code store n stack) s (integer_to_bool T v h (counters_in s)) b (Lowered.Refused k h.line)
-  unfolding integer_to_bool ◌>>=◌
-  bool_stopped m q = rw ((new_refused m q).is h) (record { shown = (refl, refl) })
-
-pub bit_own : {b : Bufs} {s : State} (T : Tables) (v : Val) (x : Bit) (h : hir.At) → HasBit v (Flag.Bit x) → Placed b s
-    → MeetsBit b s (value_as_bit T (flat_of (head_of v)) h (counters_in s)) b (BitLowered.Done x s)
-unfolding value_as_bit
-bit_own {b} {s} T v x h e g = rw e.is (record { shown = (refl, left_none b s g) })
+-- bits and pointers alone have one
+pub no_width : (lists : List ℕ) (k : TypeKind) → ((n : ℕ) → k ≡ TypeKind.Bits n → ⊥) → (k ≡ TypeKind.Pointer → ⊥) → width_of (type_word k) (type_args lists k) ≡ None
+no_width lists TypeKind.Unit b p = refl
+no_width lists TypeKind.Bool b p = refl
+no_width lists (TypeKind.Bits n) b p = absurd (b n refl)
+no_width lists (TypeKind.Float n) b p = refl
+no_width lists TypeKind.Pointer b p = absurd (p refl)
+no_width lists (TypeKind.Array t n) b p = refl
+no_width lists (TypeKind.Struct a n) b p = refl
+no_width lists (TypeKind.Tuple a n) b p = refl
+no_width lists (TypeKind.Opaque n) b p = refl
 
 -- ---------------------------------------------------------------- comparing
 
-pub compared_meets : {code store code' store' : List ℕ} {s : State} {x : Lowered} (a : Allocated) (o : hir.CompareOp) (w : ℕ) (ls rs : List ByteOperand) (h : hir.At) (n stack : List ℕ) → h.node ≡ s.counters.node.0
-    → Does 1 (texts code store) s.counters (comparing o w ls rs) (value bool_type (bit_value (stored_bit a.id.0))) (texts code' store') a.counters
-    → x ≡ Lowered.Done (bool_in a.id) (behind_new s a)
-    → MeetsValue (bufs code store n stack) s (comparing o w ls rs h (counters_in s)) (bufs code' store' n stack) x
-compared_meets {s = s} a o w ls rs h n stack g d p = rw (p, d.is h) (record { shown = (refl, tt, left_does {s = s} n stack h g d) })
-
-pub compared_float : (o : hir.CompareOp) (w : ℕ) (ls rs : List ByteOperand) (h : hir.At) (c : monad.Counters) → compare_op o ≡ none → comparing o w ls rs h c ≡ refused 24 h.line
+pub compared_float : (o : hir.CompareOp) (w : ℕ) (ls rs : List ByteOperand) (h : hir.At) (c : monad.Counters) → compare_op o ≡ None → comparing o w ls rs h c ≡ refused 24 h.line
 unfolding comparing allocate_bit_temporary allocate_storage or_refuse ◌>>=◌
 compared_float o w ls rs h c e = rw e
 
-module _ (T : Tables) (o : hir.CompareOp) (l r : Value) (h : hir.At) (c : monad.Counters) where
-  pub compare_no_width : HasWidth T (value_type l) Width.Absent → lower_compare T o l r h c ≡ refused 23 h.line
-  unfolding lower_compare integer_width or_refuse ◌>>=◌
-  compare_no_width w = rw w.is
-
-  pub compare_no_left : {w : ℕ} → HasWidth T (value_type l) (Width.Found w) → repr_bytes (value_repr l) ≡ none → lower_compare T o l r h c ≡ refused 24 h.line
-  unfolding lower_compare integer_width value_bytes or_refuse ◌>>=◌
-  compare_no_left w e = rw (w.is, e)
-
-  pub compare_no_right : {w : ℕ} {ls : List ByteOperand} → HasWidth T (value_type l) (Width.Found w) → repr_bytes (value_repr l) ≡ some ls → repr_bytes (value_repr r) ≡ none
-      → lower_compare T o l r h c ≡ refused 24 h.line
-  unfolding lower_compare integer_width value_bytes or_refuse ◌>>=◌
-  compare_no_right w e k = rw (w.is, e, k)
-
-pub compare_meets : {b b1 : Bufs} {s : State} {x : Lowered} (T : Tables) (o : hir.CompareOp) (l r : Value) (h : hir.At) {w : ℕ} {ls rs : List ByteOperand}
-    → HasWidth T (value_type l) (Width.Found w) → repr_bytes (value_repr l) ≡ some ls → repr_bytes (value_repr r) ≡ some rs
-    → MeetsValue b s (comparing o w ls rs h (counters_in s)) b1 x → MeetsValue b s (lower_compare T o l r h (counters_in s)) b1 x
-compare_meets {s = s} T o l r h w e k m = rw (compare_behind T o l r h (counters_in s) w e k) m
-
 -- a number behind the last operator's
-pub past_ops : (op : ℕ) → 16 ≤ op → ticket.compare_op op ≡ hir.equal
-past_ops op h = get_or-eq_default hir.compare_ops hir.equal {n = op} h
+pub compare_past : (op : ℕ) → 16 ≤ op → compare_op (ticket.compare_op op) ≡ compare_op hir.equal
+compare_past op h = ap compare_op (get_or-eq_default hir.compare_ops hir.equal {n = op} h)
 
--- a refusal, as the definition
-pub value_stops : {b b1 : Bufs} {s : State} {o : Outcome Value} {n k : ℕ} → o ≡ refused n k → MeetsValue b s o b1 (Lowered.Refused n k)
-value_stops e = rw e (record { shown = (refl, refl) })
+-- the last six compare floats
+floats_from : (d : ℕ) → d ≤ 5 → compare_op (ticket.compare_op (10 + d)) ≡ None
+unfolding compare_op
+floats_from zero h = refl
+floats_from (suc zero) h = refl
+floats_from (suc (suc zero)) h = refl
+floats_from (suc (suc (suc zero))) h = refl
+floats_from (suc (suc (suc (suc zero)))) h = refl
+floats_from (suc (suc (suc (suc (suc zero))))) h = refl
+floats_from (suc (suc (suc (suc (suc (suc d)))))) h = absurd (omega arith)
+
+pub compare_floats : (op : ℕ) → 10 ≤ op → op ≤ 15 → compare_op (ticket.compare_op op) ≡ None
+compare_floats op h k = let e : 10 + (op - 10) ≡ op = omega arith in rw e at (floats_from (op - 10) (omega arith))
+
+pub ruleset operators = (compare_past, compare_floats)
 
 -- ---------------------------------------------------------------- a place's type
 
@@ -221,7 +146,7 @@ TypedCase ty (refused n l) = Unit {0}
 TypedCase ty (done l c o) = l.ty ≡ ty
 
 -- a location that m answers is of the type ty
-pub record Typed (ty : ℕ) (m : Lower Location) : Type 0 where
+record Typed (ty : ℕ) (m : Lower Location) : Type 0 where
   pub is : (h : hir.At) (c : monad.Counters) → TypedCase ty (m h c)
 
 typed_prepend : (ty : ℕ) (o : monad.Out) (x : Outcome Location) → TypedCase ty x → TypedCase ty (prepend o x)
@@ -248,28 +173,12 @@ resolve_typed T (field p i) ty = typed_then _ _ (λ b. typed_then _ _ (λ f. typ
 resolve_typed T (element p e) ty = typed_then _ _ (λ b. typed_then _ _ (λ f. typed_next _ _ (typed_next _ _ (record { is = λ h c. refl }))))
 resolve_typed T (byte_offset p e) ty = typed_then _ _ (λ b. typed_then _ _ (λ n. typed_next _ _ (record { is = λ h c. refl })))
 
-module _ (T : Tables) (d p ty : ℕ) {r : Resolved} (a : Locates (location_at T d p ty) r) where
-  outcome_here : {x : Resolved} → r ≡ x → (h : hir.At) (c : monad.Counters) → resolve_place T (place_at d T p) ty h c ≡ outcome_of (resolved_answer x) h c
-  outcome_here e h c = a.answers.shown h c ∙ ap (λ (z : Resolved). outcome_of (resolved_answer z) h c) e
+module _ (t : code.Tables) (d p ty : ℕ) {q : Result Loc Refusal} {x : Loc} (a : location_at (ticket_of t) d p ty ≡ outcome_of location_from q) (e : q ≡ Ok x) where
+  found_type : x.ty ≡ ty
+  found_type =
+      let c : monad.Counters = record { storage = 0; temporary = 0 } in
+      let k : resolve_place (ticket_of t) (place_at d (ticket_of t) p) ty nowhere c ≡ done (location_from x) c nothing = rw (a, e) in
+      subst (λ (z : Outcome Location). TypedCase ty z) k ((resolve_typed (ticket_of t) (place_at d (ticket_of t) p) ty).is nowhere c)
 
-  pub read_refused : {n : ℕ} → r ≡ Resolved.Refused n → (h : hir.At) (c : monad.Counters) → lower_read T (place_at d T p) ty h c ≡ refused n h.line
-  unfolding lower_read ◌>>=◌
-  read_refused e h c = rw (outcome_here e h c)
-
-  module _ {l : Loc} (e : r ≡ Resolved.At l) where
-    pub read_found : (h : hir.At) (c : monad.Counters) → lower_read T (place_at d T p) ty h c ≡ read_location T (location_from l) h c
-    unfolding lower_read ◌>>=◌
-    read_found h c = rw (outcome_here e h c) (prepend_nothing (read_location T (location_from l) h c))
-
-    found_type : l.ty ≡ ty
-    found_type =
-        let c : monad.Counters = record { storage = 0; temporary = 0 } in
-        subst (λ (z : Outcome Location). TypedCase ty z) (outcome_here e nowhere c) ((resolve_typed T (place_at d T p) ty).is nowhere c)
-
-    pub room_found : {n : ℕ} {s : State} {stack : List ℕ} → Readable T → TypeRoom T n ty 0 s stack → TypeRoom T n l.ty l.offset s stack
-    room_found R k =
-        rw found_type (record { node = k.node; room = k.room; top = k.top; reach = omega (arith, a.near l e, R.types.size_most ty) })
-
-    pub read_meets : {b b1 : Bufs} {s : State} {x : Lowered} (h : hir.At) → MeetsValue b s (read_location T (location_from l) h (counters_in s)) b1 x
-        → MeetsValue b s (lower_read T (place_at d T p) ty h (counters_in s)) b1 x
-    read_meets {s = s} h m = rw (read_found h (counters_in s)) m
+  pub room_found : {n : ℕ} {l : Lowering} → TypeRoom (ticket_of t) n ty 0 l → TypeRoom (ticket_of t) n x.ty x.offset l
+  room_found k = rw found_type (record { node = k.node; room = k.room; top = k.top; reach = omega (arith, x.offset_most, t.readable.types.size_most ty) })

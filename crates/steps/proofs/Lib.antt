@@ -1,2 +1,4 @@
+pub mod Asks
 pub mod Laws
 pub mod Pointers
+pub mod Temporaries

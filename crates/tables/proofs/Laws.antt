@@ -2,7 +2,8 @@
 use mathlib.Core.Path.{◌≡◌, refl, sym, ap, subst, ◌∙◌}
 use mathlib.Core.Bool.{Bool, true, false}
 use mathlib.Core.List.{List, ◌∷◌, ◌++◌, []}
-use mathlib.Core.Option.{none, some}
+use Rattle.std.specs.Prelude.{None, Some}
+use Rattle.std.specs.Option.{option_map}
 use Prim.Native.Nat.{ℕ, zero, suc, ◌+◌, ◌-◌, ◌*◌, ◌≤◌, ◌<◌}
 use native.Mathlib.Omega.{arith}
 use lib.ListN.{length, get_or, take, get_or-eq_default}
@@ -19,8 +20,7 @@ use Rattle.tables.specs.declared.Counts.{Counts}
 use Rattle.tables.specs.declared.TypeKind.{TypeKind}
 use Rattle.tables.specs.declared.NodeKind.{NodeKind}
 use Rattle.tables.specs.declared.PlaceKind.{PlaceKind}
-use Rattle.tables.specs.declared.PlacedAt.{PlacedAt}
-use Rattle.tables.specs.Tables.{pick, tab, row_of, cell, run, numbers_at, storages_from, variables_from, statics_from, places_from, type_cell, type_word_by, type_kinds, type_kind, type_kind_in, type_kind_at, type_word, type_args, size_at, weight_at, type_line, storage_line, owner_at, placed_line, placed_option, placed_of, placed_at, placed_list, variables_of, statics_of, place_word_by, place_kinds, place_kind, place_kind_at, place_word, place_args, place_line, node_cell, node_word_by, node_kinds, node_kind, node_kind_in, node_kind_at, node_word, node_args, node_line, behind, tables_of, tree_of, place_by_kind, at_of, Sized}
+use Rattle.tables.specs.Tables.{pick, tab, row_of, cell, run, numbers_at, storages_from, variables_from, statics_from, places_from, nodes_from, type_cell, type_word_by, type_kinds, type_kind, type_kind_in, type_kind_at, type_word, type_args, size_at, weight_at, type_line, storage_line, owner_at, placed_line, placed_of, placed_at, placed_list, variables_of, statics_of, place_word_by, place_kinds, place_kind, place_kind_at, place_word, place_args, place_line, node_cell, node_word_by, node_kinds, node_kind, node_kind_in, node_kind_at, node_word, node_args, node_line, behind, tables_of, tree_of, place_by_kind, at_of, Sized}
 
 -- ---------------------------------------------------------------- lists by a function
 
@@ -51,13 +51,13 @@ module _ {A : Type 0} (f : ℕ → A) where
   length_tab j zero = refl
   length_tab j (suc n) = ap suc (length_tab (suc j) n)
 
-  pub nth_tab_in : (j n k : ℕ) → k < n → nth (tab f j n) k ≡ some (f (j + k))
+  pub nth_tab_in : (j n k : ℕ) → k < n → nth (tab f j n) k ≡ Some (f (j + k))
   unfolding tab nth
   nth_tab_in j zero k h = absurd (omega arith)
   nth_tab_in j (suc n) zero h = let e : j + 0 ≡ j = omega arith in rw e
   nth_tab_in j (suc n) (suc k) h = let e : suc j + k ≡ j + suc k = omega arith in rw (← e) (nth_tab_in (suc j) n k (omega arith))
 
-  pub nth_tab_out : (j n k : ℕ) → n ≤ k → nth (tab f j n) k ≡ none
+  pub nth_tab_out : (j n k : ℕ) → n ≤ k → nth (tab f j n) k ≡ None
   unfolding tab nth
   nth_tab_out j zero k h = refl
   nth_tab_out j (suc n) zero h = absurd (omega arith)
@@ -98,11 +98,11 @@ module _ (lists : List ℕ) where
   unfolding run
   length_run a n = length_tab (λ i. get_or lists i 0) a n
 
-  pub nth_run : (a n i : ℕ) → i < n → nth (run lists a n) i ≡ some (get_or lists (a + i) 0)
+  pub nth_run : (a n i : ℕ) → i < n → nth (run lists a n) i ≡ Some (get_or lists (a + i) 0)
   unfolding run
   nth_run a n i h = nth_tab_in (λ i. get_or lists i 0) a n i h
 
-  pub nth_run_out : (a n i : ℕ) → n ≤ i → nth (run lists a n) i ≡ none
+  pub nth_run_out : (a n i : ℕ) → n ≤ i → nth (run lists a n) i ≡ None
   unfolding run
   nth_run_out a n i h = nth_tab_out (λ i. get_or lists i 0) a n i h
 
@@ -246,7 +246,7 @@ place_tree p e w xs =
 
 -- ---------------------------------------------------------------- lines
 
-module _ (rows nodes lists : List ℕ) (c : Counts) where
+module _ (rows lists : List ℕ) (c : Counts) where
   type_out : (k : ℕ) → c.types ≤ k → type_line rows lists c k ≡ no_type
   unfolding type_line type_word_by
   type_out k g =
@@ -258,30 +258,30 @@ module _ (rows nodes lists : List ℕ) (c : Counts) where
         numbers_out rows lists 0 c.types k g,
       )
 
-  pub type_at_lem : (k : ℕ) → type_at (tables_of rows nodes lists c) k ≡ type_line rows lists c k
+  pub type_at_lem : (k : ℕ) → type_at (tables_of rows lists c) k ≡ type_line rows lists c k
   unfolding tables_of
   type_at_lem k = get_d_tab0 (type_line rows lists c) no_type c.types k (type_out k)
 
-  pub size_here : (k : ℕ) → type_size (tables_of rows nodes lists c) k ≡ size_at rows c k
+  pub size_here : (k : ℕ) → type_size (tables_of rows lists c) k ≡ size_at rows c k
   unfolding type_size type_line
   size_here k = ap (λ l. l.size) (type_at_lem k)
 
-  pub weight_here : (k : ℕ) → (type_at (tables_of rows nodes lists c) k).weight ≡ weight_at rows c k
+  pub weight_here : (k : ℕ) → (type_at (tables_of rows lists c) k).weight ≡ weight_at rows c k
   unfolding type_line
   weight_here k = rw (type_at_lem k)
 
-  pub word_here : (k : ℕ) → (type_at (tables_of rows nodes lists c) k).word ≡ type_word (type_kind_at rows lists c k)
+  pub word_here : (k : ℕ) → (type_at (tables_of rows lists c) k).word ≡ type_word (type_kind_at rows lists c k)
   unfolding type_line type_kind_at
   word_here k = ap (λ l. l.word) (type_at_lem k) ∙ type_word_kind lists (type_cell rows c k 0 0) (type_cell rows c k 1 0) (type_cell rows c k 2 0)
 
   pub looks_here : {A : Type 0} {F : TypeWord → List ℕ → A} → Looks F → (k : ℕ)
-      → F (type_at (tables_of rows nodes lists c) k).word (type_at (tables_of rows nodes lists c) k).args ≡ F (type_word (type_kind_at rows lists c k)) (type_args lists (type_kind_at rows lists c k))
+      → F (type_at (tables_of rows lists c) k).word (type_at (tables_of rows lists c) k).args ≡ F (type_word (type_kind_at rows lists c k)) (type_args lists (type_kind_at rows lists c k))
   unfolding type_line type_kind_at numbers_at
   looks_here {F = F} l k =
       ap (λ t. F t.word t.args) (type_at_lem k) ∙ type_looked lists (type_cell rows c k 0 0) (type_cell rows c k 1 0) (type_cell rows c k 2 0) l
 
   -- a readable ticket's type has as many numbers as its word takes
-  pub args_here : TypesRight (tables_of rows nodes lists c) → (k : ℕ) → (type_at (tables_of rows nodes lists c) k).args ≡ type_args lists (type_kind_at rows lists c k)
+  pub args_here : TypesRight (tables_of rows lists c) → (k : ℕ) → (type_at (tables_of rows lists c) k).args ≡ type_args lists (type_kind_at rows lists c k)
   unfolding type_line type_kind_at numbers_at
   args_here R k =
       ap (λ l. l.args) (type_at_lem k)
@@ -291,11 +291,11 @@ module _ (rows nodes lists : List ℕ) (c : Counts) where
   unfolding storage_line
   storage_out k g = rw (numbers_out rows lists storages_from c.storages k g)
 
-  pub storage_at_lem : (k : ℕ) → storage_at (tables_of rows nodes lists c) k ≡ storage_line rows lists c k
+  pub storage_at_lem : (k : ℕ) → storage_at (tables_of rows lists c) k ≡ storage_line rows lists c k
   unfolding tables_of
   storage_at_lem k = get_d_tab0 (storage_line rows lists c) no_storage_line c.storages k (storage_out k)
 
-  pub owner_here : (k : ℕ) → (storage_at (tables_of rows nodes lists c) k).owner ≡ owner_at rows lists c k
+  pub owner_here : (k : ℕ) → (storage_at (tables_of rows lists c) k).owner ≡ owner_at rows lists c k
   unfolding storage_line
   owner_here k = rw (storage_at_lem k)
 
@@ -309,80 +309,80 @@ module _ (rows nodes lists : List ℕ) (c : Counts) where
         numbers_out rows lists places_from c.places k g,
       )
 
-  pub place_line_at_lem : (k : ℕ) → place_line_at (tables_of rows nodes lists c) k ≡ place_line rows lists c k
+  pub place_line_at_lem : (k : ℕ) → place_line_at (tables_of rows lists c) k ≡ place_line rows lists c k
   unfolding tables_of
   place_line_at_lem k = get_d_tab0 (place_line rows lists c) no_place c.places k (place_out k)
 
-  node_out : (k : ℕ) → c.nodes ≤ k → node_line nodes lists c k ≡ no_node
+  node_out : (k : ℕ) → c.nodes ≤ k → node_line rows lists c k ≡ no_node
   unfolding node_line node_word_by
   node_out k g =
       rw (
-        cell_out nodes 0 c.nodes k 0 4 g,
-        cell_out nodes 0 c.nodes k 3 0 g,
-        cell_out nodes 0 c.nodes k 4 0 g,
-        numbers_out nodes lists 0 c.nodes k g,
+        cell_out rows nodes_from c.nodes k 0 4 g,
+        cell_out rows nodes_from c.nodes k 3 0 g,
+        cell_out rows nodes_from c.nodes k 4 0 g,
+        numbers_out rows lists nodes_from c.nodes k g,
       )
 
-  pub node_at_lem : (k : ℕ) → node_at (tables_of rows nodes lists c) k ≡ node_line nodes lists c k
+  pub node_at_lem : (k : ℕ) → node_at (tables_of rows lists c) k ≡ node_line rows lists c k
   unfolding tables_of
-  node_at_lem k = get_d_tab0 (node_line nodes lists c) no_node c.nodes k (node_out k)
+  node_at_lem k = get_d_tab0 (node_line rows lists c) no_node c.nodes k (node_out k)
 
 -- ---------------------------------------------------------------- variables and statics
 
 module _ (rows lists : List ℕ) (base count k : ℕ) where
-  nth_placed_by : (t : Bool) → ltb k count ≡ t → nth (placed_list rows lists base count) k ≡ placed_option (pick t (PlacedAt.Found (placed_of (numbers_at rows lists base count k))) PlacedAt.Missing)
+  nth_placed_by : (t : Bool) → ltb k count ≡ t → nth (placed_list rows lists base count) k ≡ option_map placed_line (pick t (Some (placed_of (numbers_at rows lists base count k))) None)
   unfolding placed_list
   nth_placed_by true e = let z : 0 + k ≡ k = omega arith in rw z at (nth_tab_in (λ i. placed_line (placed_of (numbers_at rows lists base count i))) 0 count k (ltb-true k count e))
   nth_placed_by false e = nth_tab_out (λ i. placed_line (placed_of (numbers_at rows lists base count i))) 0 count k (ltb-false k count e)
 
-  pub nth_placed : nth (placed_list rows lists base count) k ≡ placed_option (placed_at rows lists base count k)
+  pub nth_placed : nth (placed_list rows lists base count) k ≡ option_map placed_line (placed_at rows lists base count k)
   unfolding placed_at
   nth_placed = nth_placed_by (ltb k count) refl
 
-module _ (rows nodes lists : List ℕ) (c : Counts) where
-  pub nth_variable : (k : ℕ) → nth (tables_of rows nodes lists c).variables k ≡ nth (variables_of rows lists c) k
+module _ (rows lists : List ℕ) (c : Counts) where
+  pub nth_variable : (k : ℕ) → nth (tables_of rows lists c).variables k ≡ nth (variables_of rows lists c) k
   unfolding tables_of
   nth_variable k = refl
 
-  pub nth_static : (k : ℕ) → nth (tables_of rows nodes lists c).statics k ≡ nth (statics_of rows lists c) k
+  pub nth_static : (k : ℕ) → nth (tables_of rows lists c).statics k ≡ nth (statics_of rows lists c) k
   unfolding tables_of
   nth_static k = refl
 
   -- ---------------------------------------------------------------- trees
 
-  tree_by : (d k : ℕ) → expr_at (suc d) (tables_of rows nodes lists c) k ≡ tree_of (tables_of rows nodes lists c) lists d (at_of nodes lists c k) (node_kind_at nodes lists c k)
+  tree_by : (d k : ℕ) → expr_at (suc d) (tables_of rows lists c) k ≡ tree_of (tables_of rows lists c) lists d (at_of rows lists c k) (node_kind_at rows lists c k)
   unfolding expr_at node_line node_kind_at numbers_at
   tree_by d k =
-      let T = tables_of rows nodes lists c in
-      rw (node_at_lem rows nodes lists c k, behind_run lists (node_cell nodes c k 1 0) (node_cell nodes c k 2 0))
-      (node_tree lists (node_cell nodes c k 0 4) (behind lists (node_cell nodes c k 1 0)) (node_cell nodes c k 2 0 - 1) (λ j. place_at d T j) (λ j. expr_at d T j) (at_of nodes lists c k))
+      let T = tables_of rows lists c in
+      rw (node_at_lem rows lists c k, behind_run lists (node_cell rows c k 1 0) (node_cell rows c k 2 0))
+      (node_tree lists (node_cell rows c k 0 4) (behind lists (node_cell rows c k 1 0)) (node_cell rows c k 2 0 - 1) (λ j. place_at d T j) (λ j. expr_at d T j) (at_of rows lists c k))
 
-  pub tree_here : (d k : ℕ) (n : NodeKind) → (d ≡ 0 → ⊥) → node_kind_at nodes lists c k ≡ n → expr_at d (tables_of rows nodes lists c) k ≡ tree_of (tables_of rows nodes lists c) lists (d - 1) (at_of nodes lists c k) n
+  pub tree_here : (d k : ℕ) (n : NodeKind) → (d ≡ 0 → ⊥) → node_kind_at rows lists c k ≡ n → expr_at d (tables_of rows lists c) k ≡ tree_of (tables_of rows lists c) lists (d - 1) (at_of rows lists c k) n
   tree_here zero k n h e = absurd (h refl)
   tree_here (suc d) k n h e = let g : suc d - 1 ≡ d = omega arith in rw (g, ← e) (tree_by d k)
 
-  pub tree_none : (d k : ℕ) → d ≡ 0 → expr_at d (tables_of rows nodes lists c) k ≡ null_pointer nowhere
+  pub tree_none : (d k : ℕ) → d ≡ 0 → expr_at d (tables_of rows lists c) k ≡ null_pointer nowhere
   unfolding expr_at
   tree_none d k e = rw e
 
-  place_by : (d k : ℕ) → place_at (suc d) (tables_of rows nodes lists c) k ≡ place_by_kind (tables_of rows nodes lists c) d (place_kind_at rows lists c k)
+  place_by : (d k : ℕ) → place_at (suc d) (tables_of rows lists c) k ≡ place_by_kind (tables_of rows lists c) d (place_kind_at rows lists c k)
   unfolding place_at place_line place_kind_at
   place_by d k =
-      let T = tables_of rows nodes lists c in
-      rw (place_line_at_lem rows nodes lists c k)
+      let T = tables_of rows lists c in
+      rw (place_line_at_lem rows lists c k)
       (place_tree (λ j. place_at d T j) (λ j. expr_at d T j) (cell rows places_from c.places k 0 0) (numbers_at rows lists places_from c.places k))
 
-  pub place_here : (d k : ℕ) (p : PlaceKind) → (d ≡ 0 → ⊥) → place_kind_at rows lists c k ≡ p → place_at d (tables_of rows nodes lists c) k ≡ place_by_kind (tables_of rows nodes lists c) (d - 1) p
+  pub place_here : (d k : ℕ) (p : PlaceKind) → (d ≡ 0 → ⊥) → place_kind_at rows lists c k ≡ p → place_at d (tables_of rows lists c) k ≡ place_by_kind (tables_of rows lists c) (d - 1) p
   place_here zero k p h e = absurd (h refl)
   place_here (suc d) k p h e = let g : suc d - 1 ≡ d = omega arith in rw (g, ← e) (place_by d k)
 
-  pub place_none : (d k : ℕ) → d ≡ 0 → place_at d (tables_of rows nodes lists c) k ≡ variable 0
+  pub place_none : (d k : ℕ) → d ≡ 0 → place_at d (tables_of rows lists c) k ≡ variable 0
   unfolding place_at
   place_none d k e = rw e
 
 -- ---------------------------------------------------------------- a readable ticket's tables are small
 
-module _ (rows nodes lists : List ℕ) (c : Counts) (r : Readable (tables_of rows nodes lists c)) where
+module _ (rows lists : List ℕ) (c : Counts) (r : Readable (tables_of rows lists c)) where
   pub readable_sized : Sized c
   unfolding tables_of placed_list
   readable_sized =
@@ -392,5 +392,5 @@ module _ (rows nodes lists : List ℕ) (c : Counts) (r : Readable (tables_of row
         variables = omega (arith, r.variable_count, length_tab (λ k. placed_line (placed_of (numbers_at rows lists variables_from c.variables k))) 0 c.variables);
         statics = omega (arith, r.static_count, length_tab (λ k. placed_line (placed_of (numbers_at rows lists statics_from c.statics k))) 0 c.statics);
         places = omega (arith, r.place_count, length_tab (place_line rows lists c) 0 c.places);
-        nodes = omega (arith, r.node_count, length_tab (node_line nodes lists c) 0 c.nodes);
+        nodes = omega (arith, r.node_count, length_tab (node_line rows lists c) 0 c.nodes);
       }

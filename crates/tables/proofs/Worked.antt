@@ -133,6 +133,6 @@ counts =
       weights = 38;
     }
 
-pub read_right : read_ticket (text ticket) ≡ accepted (tables_of rows (drop 30 rows) lists counts)
+pub read_right : read_ticket (text ticket) ≡ accepted (tables_of rows lists counts)
 unfolding computing tab cell run numbers_at type_word_by type_line storage_line placed_list place_word_by place_line node_word_by node_line tables_of
 read_right = refl

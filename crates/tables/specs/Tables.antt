@@ -1,8 +1,7 @@
 -- The tables that the words of three slices stand for.
 --
 -- `rows` has six words a row. The kinds take turns: every sixth row is a type's, from row 0 on, every sixth a storage's, from row 1 on,
--- and so variables from 2, statics from 3, places from 4 and nodes from 5. Thus few lines take few words. `nodes` is `rows` from word 30
--- on, lent as a slice of its own, so that the nodes' rows are those from row 0 on in it.
+-- and so variables from 2, statics from 3, places from 4 and nodes from 5. Thus few lines take few words.
 --
 --   every row   0 the word's number    1 where its numbers start in `lists`    2 how many they are
 --   types       3 size                 4 weight                                5 depth
@@ -10,7 +9,7 @@
 --
 -- `lists` has the numbers of all lines, one line's behind another's; a node's first number is its TYPE.
 use Rattle.std.specs.Prelude.{ℕ, zero, suc, ◌+◌, ◌-◌, ◌*◌, ◌≤◌, Bool, true, false, List, ◌∷◌, [], length, get_or, ltb}
-use Rattle.std.proofs.Math.Option.{Option, none, some}
+use Rattle.std.specs.Prelude.{Option, None, Some}
 use Rattle.spec.specs.Forms.{rule, type_rules, place_rules, node_rules}
 use Rattle.spec.specs.Read.{behind_type}
 use Rattle.spec.specs.Hir.{At, Expr, Place}
@@ -18,7 +17,6 @@ use Rattle.spec.specs.Ticket.{TypeWord, t_unit, t_bool, t_bits, t_float, t_point
 use Rattle.tables.specs.declared.Counts.{Counts}
 use Rattle.tables.specs.declared.TypeKind.{TypeKind}
 use Rattle.tables.specs.declared.Placed.{Placed}
-use Rattle.tables.specs.declared.PlacedAt.{PlacedAt}
 use Rattle.tables.specs.declared.PlaceKind.{PlaceKind}
 use Rattle.tables.specs.declared.NodeKind.{NodeKind}
 
@@ -60,6 +58,9 @@ statics_from = 3
 
 abbrev pub places_from : ℕ
 places_from = 4
+
+abbrev pub nodes_from : ℕ
+nodes_from = 5
 
 -- ---------------------------------------------------------------- types
 
@@ -146,15 +147,11 @@ storage_line rows lists c k =
 abbrev pub placed_line : Placed → PlacedLine
 placed_line p = record { storage = p.storage; offset = p.offset; type = p.ty; bit = p.bit }
 
-abbrev pub placed_option : PlacedAt → Option PlacedLine
-placed_option (PlacedAt.Found p) = some (placed_line p)
-placed_option PlacedAt.Missing = none
-
 abbrev pub placed_of : List ℕ → Placed
 placed_of xs = record { storage = arg xs 0; offset = arg xs 1; ty = arg xs 2; bit = arg xs 3 }
 
-unfoldable pub placed_at : List ℕ → List ℕ → ℕ → ℕ → ℕ → PlacedAt
-placed_at rows lists base count k = pick (ltb k count) (PlacedAt.Found (placed_of (numbers_at rows lists base count k))) PlacedAt.Missing
+unfoldable pub placed_at : List ℕ → List ℕ → ℕ → ℕ → ℕ → Option Placed
+placed_at rows lists base count k = pick (ltb k count) (Some (placed_of (numbers_at rows lists base count k))) None
 
 unfoldable pub placed_list : List ℕ → List ℕ → ℕ → ℕ → List PlacedLine
 placed_list rows lists base count = tab (λ k. placed_line (placed_of (numbers_at rows lists base count k))) 0 count
@@ -212,10 +209,10 @@ place_line rows lists c k =
 -- ---------------------------------------------------------------- nodes
 
 abbrev pub node_cell : List ℕ → Counts → ℕ → ℕ → ℕ → ℕ
-node_cell nodes c k j d = cell nodes 0 c.nodes k j d
+node_cell rows c k j d = cell rows nodes_from c.nodes k j d
 
 abbrev pub node_numbers : List ℕ → List ℕ → Counts → ℕ → List ℕ
-node_numbers nodes lists c k = numbers_at nodes lists 0 c.nodes k
+node_numbers rows lists c k = numbers_at rows lists nodes_from c.nodes k
 
 unfoldable pub node_word_by : ℕ → NodeWord
 node_word_by w = (get_or node_rules w (rule "null" n_null [])).make
@@ -240,13 +237,13 @@ behind lists s = pick (ltb s (length lists)) (s + 1) s
 
 -- the word of a number that no line has is that of `null`
 unfoldable pub node_kind_at : List ℕ → List ℕ → Counts → ℕ → NodeKind
-node_kind_at nodes lists c k = node_kind_in lists (node_cell nodes c k 0 4) (behind lists (node_cell nodes c k 1 0)) (node_cell nodes c k 2 0 - 1)
+node_kind_at rows lists c k = node_kind_in lists (node_cell rows c k 0 4) (behind lists (node_cell rows c k 1 0)) (node_cell rows c k 2 0 - 1)
 
 abbrev pub node_type_at : List ℕ → List ℕ → Counts → ℕ → ℕ
-node_type_at nodes lists c k = arg (node_numbers nodes lists c k) 0
+node_type_at rows lists c k = arg (node_numbers rows lists c k) 0
 
 abbrev pub node_line_at : List ℕ → Counts → ℕ → ℕ
-node_line_at nodes c k = node_cell nodes c k 3 0
+node_line_at rows c k = node_cell rows c k 3 0
 
 abbrev pub node_word : NodeKind → NodeWord
 node_word (NodeKind.Bool a) = n_bool
@@ -293,19 +290,19 @@ node_args lists (NodeKind.Extract a b) = a ∷ b ∷ []
 node_args lists (NodeKind.Insert a b c) = a ∷ b ∷ c ∷ []
 
 unfoldable pub node_line : List ℕ → List ℕ → Counts → ℕ → NodeLine
-node_line nodes lists c k =
+node_line rows lists c k =
     record {
-      type = node_type_at nodes lists c k;
-      word = node_word_by (node_cell nodes c k 0 4);
-      args = behind_type (node_numbers nodes lists c k);
-      line = node_line_at nodes c k;
-      depth = node_cell nodes c k 4 0;
+      type = node_type_at rows lists c k;
+      word = node_word_by (node_cell rows c k 0 4);
+      args = behind_type (node_numbers rows lists c k);
+      line = node_line_at rows c k;
+      depth = node_cell rows c k 4 0;
     }
 
 -- ---------------------------------------------------------------- the tables
 
-unfoldable pub tables_of : List ℕ → List ℕ → List ℕ → Counts → Tables
-tables_of rows nodes lists c =
+unfoldable pub tables_of : List ℕ → List ℕ → Counts → Tables
+tables_of rows lists c =
     record {
       function = c.function;
       next = c.next;
@@ -314,7 +311,7 @@ tables_of rows nodes lists c =
       variables = variables_of rows lists c;
       statics = statics_of rows lists c;
       places = tab (place_line rows lists c) 0 c.places;
-      nodes = tab (node_line nodes lists c) 0 c.nodes;
+      nodes = tab (node_line rows lists c) 0 c.nodes;
     }
 
 -- ---------------------------------------------------------------- trees, by the kind of the line found
@@ -326,7 +323,7 @@ abbrev pub place_by_kind : Tables → ℕ → PlaceKind → Place
 place_by_kind T d p = place_of (λ k. place_at d T k) (λ k. expr_at d T k) (place_word p) (place_args p)
 
 abbrev pub at_of : List ℕ → List ℕ → Counts → ℕ → At
-at_of nodes lists c k = record { line = node_line_at nodes c k; node = k; ty = node_type_at nodes lists c k }
+at_of rows lists c k = record { line = node_line_at rows c k; node = k; ty = node_type_at rows lists c k }
 
 -- ---------------------------------------------------------------- small enough for a word's place to be worked out
 

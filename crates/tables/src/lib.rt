@@ -1,14 +1,18 @@
-// The tables that a ticket is read into, and look-ups into them. Each is total: past a table's end it answers what the definitions give
+// The words that a ticket is read into, and look-ups into them. Each is total: past a table's end it answers what the definitions give
 // for a number that no line has.
 #![tactic(auto)]
 
 ghost use Rattle.std.specs.Prelude.{◌≡◌, ◌+◌, ◌≤◌, ◌<◌, get_or};
 ghost use Rattle.spec.specs.Ticket.{arg as arg_of};
 ghost use Rattle.spec.specs.Operands.{nth};
-ghost use Rattle.tables.specs.Tables.{cell, run, numbers_at, type_kind, type_kind_in, type_kind_at, size_at, weight_at, owner_at, placed_of, placed_at, variables_of, statics_of, placed_option, place_kind, place_kind_at, node_kind, node_kind_in, node_kind_at, behind, node_type_at, node_line_at, Sized};
+ghost use Rattle.tables.specs.Tables.{cell, run, numbers_at, type_kind, type_kind_in, type_kind_at, size_at, weight_at, owner_at, placed_of, placed_at, variables_of, statics_of, place_kind, place_kind_at, node_kind, node_kind_in, node_kind_at, behind, node_type_at, node_line_at, Sized};
+
+mod lookups;
+
+pub use lookups::Tables;
 
 // How many lines of each kind there are, the numbers in use of the lists, and the state of reading.
-#[derive(Clone, Copy)]
+#[derive(Clone, Copy, Debug, PartialEq, Eq)]
 pub struct Counts {
     pub function: u64,
     pub next: u64,
@@ -26,7 +30,7 @@ pub struct Counts {
 }
 
 // A type's word and numbers. Struct and tuple: where their fields begin in the lists, and how many they are.
-#[derive(Clone, Copy)]
+#[derive(Clone, Copy, Debug, PartialEq, Eq)]
 pub enum TypeKind {
     Unit,
     Bool,
@@ -40,7 +44,7 @@ pub enum TypeKind {
 }
 
 // A variable or a static.
-#[derive(Drop)]
+#[derive(Clone, Copy, Debug, PartialEq, Eq)]
 pub struct Placed {
     pub storage: u64,
     pub offset: u64,
@@ -48,14 +52,8 @@ pub struct Placed {
     pub bit: u64,
 }
 
-#[derive(Drop)]
-pub enum PlacedAt {
-    Found(Placed),
-    Missing,
-}
-
 // A place's word and numbers.
-#[derive(Drop)]
+#[derive(Clone, Copy, Debug, PartialEq, Eq)]
 pub enum PlaceKind {
     Variable(u64),
     Static(u64),
@@ -65,7 +63,7 @@ pub enum PlaceKind {
 }
 
 // A node's word and numbers. Aggregate: where its parts begin in the lists, and how many they are.
-#[derive(Drop)]
+#[derive(Clone, Copy, Debug, PartialEq, Eq)]
 pub enum NodeKind {
     Bool(u64),
     Int(u64),
@@ -145,6 +143,7 @@ pub fn number(s: &[u64], lists: &[u64], base: u64, count: u64, k: u64, i: u64) -
 }
 
 // The type that a word's number stands for: n numbers from `start` on, a and b the first two of them.
+#[tactic(auto, using(crate::proofs::Laws::type_kind_past), unfolding(crate::specs::Tables::type_kind))]
 pub fn type_kind(w: u64, start: u64, n: u64, a: u64, b: u64) -> TypeKind
     ensures { result ≡ type_kind w start n a b }
 {
@@ -171,82 +170,33 @@ pub fn type_in(lists: &[u64], w: u64, start: u64, n: u64) -> TypeKind
     type_kind(w, start, n, a, b)
 }
 
-pub fn type_at(rows: &[u64], lists: &[u64], counts: Counts, k: u64) -> TypeKind
-    requires { Sized counts }
-    ensures { result ≡ type_kind_at rows.now lists.now counts k }
-{
-    let w = cell(rows, 0, counts.types, k, 0, 0);
-    let start = cell(rows, 0, counts.types, k, 1, 0);
-    let n = cell(rows, 0, counts.types, k, 2, 0);
-    type_in(lists, w, start, n)
-}
-
-// The stored size.
-pub fn type_size(rows: &[u64], counts: Counts, k: u64) -> u64
-    requires { Sized counts }
-    ensures { result ≡ size_at rows.now counts k }
-{
-    cell(rows, 0, counts.types, k, 3, 0)
-}
-
-pub fn type_weight(rows: &[u64], counts: Counts, k: u64) -> u64
-    requires { Sized counts }
-    ensures { result ≡ weight_at rows.now counts k }
-{
-    cell(rows, 0, counts.types, k, 4, 1)
-}
-
-pub fn storage_owner(rows: &[u64], lists: &[u64], counts: Counts, k: u64) -> u64
-    requires { Sized counts }
-    ensures { result ≡ owner_at rows.now lists.now counts k }
-{
-    number(rows, lists, 1, counts.storages, k, 2)
-}
-
 // The variable or static of n numbers of the lists.
 pub fn placed_in(lists: &[u64], start: u64, n: u64) -> Placed
     ensures { result ≡ placed_of (run lists.now start n) }
 {
-    let storage = arg(lists, start, n, 0);
-    let offset = arg(lists, start, n, 1);
-    let ty = arg(lists, start, n, 2);
-    let bit = arg(lists, start, n, 3);
     Placed {
-        storage,
-        offset,
-        ty,
-        bit,
+        storage: arg(lists, start, n, 0),
+        offset: arg(lists, start, n, 1),
+        ty: arg(lists, start, n, 2),
+        bit: arg(lists, start, n, 3),
     }
 }
 
 // Row k of the `count` variables or statics from `base` on.
-pub fn placed_row(rows: &[u64], lists: &[u64], base: u64, count: u64, k: u64) -> PlacedAt
+fn placed_row(rows: &[u64], lists: &[u64], base: u64, count: u64, k: u64) -> Option<Placed>
     requires { base + count ≤ 1099511627776 }
     ensures { result ≡ placed_at rows.now lists.now base count k }
 {
     if count <= k {
-        return PlacedAt::Missing;
+        return None;
     }
     let start = cell(rows, base, count, k, 1, 0);
     let n = cell(rows, base, count, k, 2, 0);
-    PlacedAt::Found(placed_in(lists, start, n))
-}
-
-pub fn variable_at(rows: &[u64], lists: &[u64], counts: Counts, k: u64) -> PlacedAt
-    requires { Sized counts }
-    ensures { nth (variables_of rows.now lists.now counts) k ≡ placed_option result }
-{
-    placed_row(rows, lists, 2, counts.variables, k)
-}
-
-pub fn static_at(rows: &[u64], lists: &[u64], counts: Counts, k: u64) -> PlacedAt
-    requires { Sized counts }
-    ensures { nth (statics_of rows.now lists.now counts) k ≡ placed_option result }
-{
-    placed_row(rows, lists, 3, counts.statics, k)
+    Some(placed_in(lists, start, n))
 }
 
 // The place that a word's number and two numbers stand for.
+#[tactic(auto, using(crate::proofs::Laws::place_kind_past), unfolding(crate::specs::Tables::place_kind))]
 pub fn place_kind(w: u64, a: u64, b: u64) -> PlaceKind
     ensures { result ≡ place_kind w a b }
 {
@@ -260,17 +210,8 @@ pub fn place_kind(w: u64, a: u64, b: u64) -> PlaceKind
     }
 }
 
-pub fn place_at(rows: &[u64], lists: &[u64], counts: Counts, k: u64) -> PlaceKind
-    requires { Sized counts }
-    ensures { result ≡ place_kind_at rows.now lists.now counts k }
-{
-    let w = cell(rows, 4, counts.places, k, 0, 0);
-    let a = number(rows, lists, 4, counts.places, k, 0);
-    let b = number(rows, lists, 4, counts.places, k, 1);
-    place_kind(w, a, b)
-}
-
 // The node that a word's number stands for: n numbers from `start` on, a, b and c the first three of them.
+#[tactic(auto, using(crate::proofs::Laws::node_kind_past), unfolding(crate::specs::Tables::node_kind))]
 pub fn node_kind(w: u64, start: u64, n: u64, a: u64, b: u64, c: u64) -> NodeKind
     ensures { result ≡ node_kind w start n a b c }
 {
@@ -315,29 +256,4 @@ fn behind(lists: &[u64], start: u64) -> u64
 {
     let at = start as usize;
     if at < lists.len() { start + 1 } else { start }
-}
-
-pub fn node_at(nodes: &[u64], lists: &[u64], counts: Counts, k: u64) -> NodeKind
-    requires { Sized counts }
-    ensures { result ≡ node_kind_at nodes.now lists.now counts k }
-{
-    let w = cell(nodes, 0, counts.nodes, k, 0, 4);
-    let start = cell(nodes, 0, counts.nodes, k, 1, 0);
-    let n = cell(nodes, 0, counts.nodes, k, 2, 0);
-    let rest = if n == 0 { 0 } else { n - 1 };
-    node_in(lists, w, behind(lists, start), rest)
-}
-
-pub fn node_type(nodes: &[u64], lists: &[u64], counts: Counts, k: u64) -> u64
-    requires { Sized counts }
-    ensures { result ≡ node_type_at nodes.now lists.now counts k }
-{
-    number(nodes, lists, 0, counts.nodes, k, 0)
-}
-
-pub fn node_line(nodes: &[u64], counts: Counts, k: u64) -> u64
-    requires { Sized counts }
-    ensures { result ≡ node_line_at nodes.now counts k }
-{
-    cell(nodes, 0, counts.nodes, k, 3, 0)
 }

@@ -1,6 +1,5 @@
 -- A number put digit by digit.
 use Prim.Native.Nat.{ℕ, ◌+◌, ◌/◌, ◌%◌, ◌≤◌, ◌<◌}
-use mathlib.Core.Path.{◌≡◌}
 use mathlib.Core.List.{List, ◌∷◌, []}
 use native.Mathlib.Omega.{arith}
 use Rattle.spec.specs.Text.{digits}
@@ -19,10 +18,3 @@ module _ {l : List ℕ} {at : ℕ} {l1 : List ℕ} {p : ℕ} where
   -- two digits
   pub number_two : {l2 : List ℕ} {q : ℕ} (n : ℕ) → 10 ≤ n → n < 100 → Put l at ((48 + n / 10) ∷ []) l1 p → Put l1 p ((48 + n % 10) ∷ []) l2 q → Put l at (digits n) l2 q
   number_two n h k a b = number_more n h (number_one (n / 10) (omega arith) a) b
-
--- three digits: two, and the last one behind them
-pub number_three : {l : List ℕ} {at : ℕ} {l1 : List ℕ} {p : ℕ} {l2 : List ℕ} {q : ℕ} {l3 : List ℕ} {r : ℕ} (n : ℕ) → 100 ≤ n → n < 1000
-    → Put l at ((48 + n / 100) ∷ []) l1 p → Put l1 p ((48 + n / 10 % 10) ∷ []) l2 q → Put l2 q ((48 + n % 10) ∷ []) l3 r → Put l at (digits n) l3 r
-number_three n h k a b d =
-    let e : n / 100 ≡ n / 10 / 10 = omega arith in
-    number_more n (omega arith) (number_two (n / 10) (omega arith) (omega arith) (rw e at a) b) d

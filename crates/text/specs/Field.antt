@@ -1,11 +1,7 @@
 -- Fields at positions of a text, and the numbers and words in them.
 use Rattle.std.specs.Prelude.{ℕ, ◌+◌, Bool, true, false, ◌&&◌, cond, ◌||◌, List, ◌∷◌, [], eqb, ltb, length, drop, get_or}
-use Rattle.std.proofs.Math.Option.{Option, none, some}
+use Rattle.std.specs.Prelude.{Option, None, Some}
 use Rattle.spec.specs.Text.{comma, line_feed, split, number}
-use Rattle.text.specs.declared.Decimal.{Decimal}
-use Rattle.text.specs.declared.Decimal.TheVariants.{Value, Malformed}
-use Rattle.text.specs.declared.Expected.{Expected}
-use Rattle.text.specs.declared.Expected.TheVariants.{Next, Missing}
 
 -- a comma or a line feed
 abbrev pub ends_field : ℕ → Bool
@@ -44,25 +40,22 @@ parts_at s at = split comma (line_at s at)
 
 -- ---------------------------------------------------------------- what the readers answer
 
-unfoldable pub decimal : Option ℕ → ℕ → Decimal
-decimal none next = Malformed
-decimal (some v) next = Value v (record { at = next })
+-- a value and the position behind it
+abbrev pub with_next : Option ℕ → ℕ → Option (ℕ × ℕ)
+with_next None next = None
+with_next (Some v) next = Some (v, next)
 
 -- the number that the field at a position is
-unfoldable pub number_at : List ℕ → ℕ → Decimal
-number_at s at = decimal (number (field_at s at)) (field_end s at)
-
-unfoldable pub expected : Bool → ℕ → Expected
-expected true next = Next (record { at = next })
-expected false next = Missing
+unfoldable pub number_at : List ℕ → ℕ → Option (ℕ × ℕ)
+number_at s at = with_next (number (field_at s at)) (field_end s at)
 
 -- the byte b at a position
 abbrev pub stands : List ℕ → ℕ → ℕ → Bool
 stands s at b = ltb at (length s) && eqb (get_or s at 0) b
 
-unfoldable pub byte_at : List ℕ → ℕ → ℕ → Expected
-byte_at s at b = expected (stands s at b) (at + 1)
+unfoldable pub byte_at : List ℕ → ℕ → ℕ → Option ℕ
+byte_at s at b = cond (stands s at b) (Some (at + 1)) None
 
 -- a comma at a position, and a number behind it
-unfoldable pub next_number_at : List ℕ → ℕ → Decimal
-next_number_at s at = cond (stands s at comma) (number_at s (at + 1)) Malformed
+unfoldable pub next_number_at : List ℕ → ℕ → Option (ℕ × ℕ)
+next_number_at s at = cond (stands s at comma) (number_at s (at + 1)) None

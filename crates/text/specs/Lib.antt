@@ -1,3 +1,4 @@
 pub mod Put
 pub mod Field
 pub mod Step
+pub mod Writes

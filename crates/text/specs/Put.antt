@@ -69,18 +69,12 @@ pub none : (l : List ℕ) (at : ℕ) → length l ≤ last → at ≤ last → P
 none l at h k = record { text = refl; next = rw add-zero (sym (sat_below at k)); fits = h }
 
 -- one byte, where there is room
-pub one_in : (l : List ℕ) (at v : ℕ) → length l ≤ last → at < last → Put l at (v ∷ []) (set l at v) (at + 1)
-one_in l at v h k = record { text = refl; next = sym (sat_below (at + 1) (omega arith)); fits = h }
+pub one_in : (l : List ℕ) (at v r : ℕ) → length l ≤ last → r ≡ sat (at + 1) → Put l at (v ∷ []) (set l at v) r
+one_in l at v r h e = record { text = refl; next = e; fits = h }
 
 -- one byte, behind the slice's end
-pub one_behind : (l : List ℕ) (at v : ℕ) → length l ≤ last → at < last → length l ≤ at → Put l at (v ∷ []) l (at + 1)
-one_behind l at v h k g = record { text = sym (set_out l at v g); next = sym (sat_below (at + 1) (omega arith)); fits = h }
-
--- one byte, at the largest position
-pub one_at_last : (l : List ℕ) (at v : ℕ) → length l ≤ last → last ≤ at → at ≤ last → Put l at (v ∷ []) l at
-one_at_last l at v h k g =
-    let e : at ≡ last = omega arith in
-    record { text = sym (set_out l at v (omega arith)); next = rw e (sym (sat_above (last + 1) (omega arith))); fits = h }
+pub one_behind : (l : List ℕ) (at v r : ℕ) → length l ≤ last → r ≡ sat (at + 1) → length l ≤ at → Put l at (v ∷ []) l r
+one_behind l at v r h e g = record { text = sym (set_out l at v g); next = e; fits = h }
 
 -- ---------------------------------------------------------------- a slice put byte by byte
 

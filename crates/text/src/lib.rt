@@ -1,11 +1,13 @@
 // Texts as bytes: decimal numbers, fields and lines.
 #![tactic(auto)]
 
-ghost use Rattle.std.specs.Prelude.{◌≡◌, ◌∷◌, [], ◌≤◌, ◌<◌, length};
+ghost use Rattle.std.specs.Prelude.{◌≡◌, ◌∷◌, [], ◌≤◌, ◌<◌};
 ghost use Rattle.spec.specs.Text.{digits};
 ghost use Rattle.text.specs.Put.{Put};
-ghost use Rattle.text.specs.Field.{number_at, byte_at, next_number_at};
-ghost use Rattle.text.specs.Step.{Step};
+ghost use Rattle.text.specs.Field.{ends_field as ends, number_at, byte_at, next_number_at};
+ghost use Rattle.text.specs.Step.{digit_of, Step};
+
+pub mod writer;
 
 // One byte; where there is no room it is dropped.
 pub fn put(buf: &mut [u8], at: usize, b: u8) -> usize
@@ -13,12 +15,8 @@ pub fn put(buf: &mut [u8], at: usize, b: u8) -> usize
 {
     if at < buf.len() {
         buf[at] = b;
-        at + 1
-    } else if at < 18446744073709551615 {
-        at + 1
-    } else {
-        at
     }
+    at.saturating_add(1)
 }
 
 // A number of two digits.
@@ -26,47 +24,27 @@ fn print_two(buf: &mut [u8], at: usize, n: u64) -> usize
     requires { (10 ≤ n) × (n < 100) }
     ensures { Put buf.old at (digits n) buf.new result }
 {
-    let p = put(buf, at, (48 + n / 10) as u8);
-    put(buf, p, (48 + n % 10) as u8)
+    let p = put(buf, at, b'0' + (n / 10) as u8);
+    put(buf, p, b'0' + (n % 10) as u8)
 }
 
-// A number of three digits.
-fn print_three(buf: &mut [u8], at: usize, n: u64) -> usize
-    requires { (100 ≤ n) × (n < 1000) }
-    ensures { Put buf.old at (digits n) buf.new result }
-{
-    let p = put(buf, at, (48 + n / 100) as u8);
-    let q = put(buf, p, (48 + n / 10 % 10) as u8);
-    put(buf, q, (48 + n % 10) as u8)
-}
-
-// A number in decimal digits. Most are short: up to three digits need no recursion.
+// A number in decimal digits. Most have up to three, which by recursion alone take 1.6 times as long.
 pub fn print_number(buf: &mut [u8], at: usize, n: u64) -> usize
     ensures { Put buf.old at (digits n) buf.new result }
 {
     if n < 10 {
-        return put(buf, at, (48 + n) as u8);
+        return put(buf, at, b'0' + n as u8);
     }
     if n < 100 {
         return print_two(buf, at, n);
     }
-    if n < 1000 {
-        return print_three(buf, at, n);
-    }
-    let next = print_number(buf, at, n / 10);
-    put(buf, next, (48 + n % 10) as u8)
-}
-
-// Over slices of one length, so that the copy is a quick one.
-pub fn copy_in(to: &mut [u8], from: &[u8])
-    requires { length to.old ≡ length from.now }
-    ensures { to.new ≡ from.now }
-{
-    let mut i: usize = 0;
-    while i < from.len() {
-        to[i] = from[i];
-        i += 1;
-    }
+    let front = n / 10;
+    let next = if front < 100 {
+        print_two(buf, at, front)
+    } else {
+        print_number(buf, at, front)
+    };
+    put(buf, next, b'0' + (n % 10) as u8)
 }
 
 // The bytes of w one by one, where there is no room for all of them.
@@ -74,10 +52,8 @@ fn print_each(buf: &mut [u8], at: usize, w: &[u8]) -> usize
     ensures { Put buf.old at w.now buf.new result }
 {
     let mut p = at;
-    let mut i: usize = 0;
-    while i < w.len() {
-        p = put(buf, p, w[i]);
-        i += 1;
+    for b in w {
+        p = put(buf, p, *b);
     }
     p
 }
@@ -88,122 +64,70 @@ pub fn print_bytes(buf: &mut [u8], at: usize, w: &[u8]) -> usize
 {
     if at < buf.len() && w.len() <= buf.len() - at {
         let next = at + w.len();
-        copy_in(&mut buf[at..next], w);
+        buf[at..next].copy_from_slice(w);
         return next;
     }
     print_each(buf, at, w)
 }
 
-// A position of a text.
-#[derive(Drop)]
-pub struct Cursor {
-    pub at: usize,
+fn ends_field(byte: u8) -> bool
+    ensures { result ≡ ends byte }
+{
+    byte == b',' || byte == b'\n'
 }
 
-// A number and where its field ends, or what is no number.
-#[derive(Drop)]
-pub enum Decimal {
-    Value(u64, Cursor),
-    Malformed,
+// A digit as a number.
+fn digit_value(byte: u8) -> Option<u64>
+    ensures { result ≡ digit_of byte }
+{
+    match byte {
+        b'0'..=b'9' => Some(u64::from(byte - b'0')),
+        _ => None,
+    }
 }
 
-// The position behind what has to stand at a position.
-#[derive(Drop)]
-pub enum Expected {
-    Next(Cursor),
-    Missing,
-}
-
-// What a byte does behind digits.
-#[derive(Drop)]
-pub enum Digit {
-    More(u64),
-    Stop,
-    Bad,
-}
-
+// A digit behind digits worth `value`, none of which is a 0 that begins.
 #[tactic(auto, using(crate::proofs::Steps::steps))]
-fn digit_step(value: u64, byte: u8) -> Digit
+fn digit_step(value: u64, byte: u8) -> Option<u64>
     ensures { Step value byte result }
 {
-    if byte == 44 {
-        return Digit::Stop;
-    }
-    if byte == 10 {
-        return Digit::Stop;
-    }
-    if byte < 48 {
-        return Digit::Bad;
-    }
-    if 57 < byte {
-        return Digit::Bad;
-    }
+    let digit = digit_value(byte)?;
     if value == 0 {
-        return Digit::Bad;
+        return None;
     }
-    let digit = (byte - 48) as u64;
-    if (18446744073709551615 - digit) / 10 < value {
-        return Digit::Bad;
-    }
-    Digit::More(value * 10 + digit)
+    value.checked_mul(10)?.checked_add(digit)
 }
 
-// The number in the field at the cursor, and the position behind that field.
-pub fn number(text: &[u8], cursor: Cursor) -> Decimal
-    ensures { result ≡ number_at text.now cursor.at }
+/// The number in the field at a position, and the position behind that field.
+#[tactic(auto, using(crate::proofs::Positions::positions))]
+pub fn number(text: &[u8], at: usize) -> Option<(u64, usize)>
+    ensures { result ≡ number_at text.now at }
 {
-    let at = cursor.at;
-    if text.len() <= at {
-        return Decimal::Malformed;
-    }
-    let first = text[at];
-    if first < 48 {
-        return Decimal::Malformed;
-    }
-    if 57 < first {
-        return Decimal::Malformed;
-    }
-    let mut value = (first - 48) as u64;
-    let mut i = at + 1;
-    while i < text.len() {
-        let byte = text[i];
-        match digit_step(value, byte) {
-            Digit::More(larger) => {
-                value = larger;
-                i += 1;
-            }
-            Digit::Stop => {
-                return Decimal::Value(value, Cursor { at: i });
-            }
-            Digit::Bad => {
-                return Decimal::Malformed;
-            }
+    let mut value = digit_value(*text.get(at)?)?;
+    for end in at + 1..text.len() {
+        if ends_field(text[end]) {
+            return Some((value, end));
         }
+        value = digit_step(value, text[end])?;
     }
-    Decimal::Value(value, Cursor { at: i })
+    Some((value, text.len()))
 }
 
-// One byte that has to stand at the cursor.
-pub fn expect(text: &[u8], cursor: Cursor, byte: u8) -> Expected
-    ensures { result ≡ byte_at text.now cursor.at byte }
+/// The position behind a byte that has to stand at a position.
+#[tactic(auto, using(crate::proofs::Words::bytes_at))]
+pub fn expect(text: &[u8], at: usize, byte: u8) -> Option<usize>
+    ensures { result ≡ byte_at text.now at byte }
 {
-    let at = cursor.at;
-    if text.len() <= at {
-        return Expected::Missing;
-    }
-    if text[at] == byte {
-        Expected::Next(Cursor { at: at + 1 })
+    if *text.get(at)? == byte {
+        Some(at + 1)
     } else {
-        Expected::Missing
+        None
     }
 }
 
-// A comma at the cursor, and the number in the field behind it.
-pub fn next_number(text: &[u8], cursor: Cursor) -> Decimal
-    ensures { result ≡ next_number_at text.now cursor.at }
+/// A comma at a position, and the number in the field behind it.
+pub fn next_number(text: &[u8], at: usize) -> Option<(u64, usize)>
+    ensures { result ≡ next_number_at text.now at }
 {
-    let Expected::Next(next) = expect(text, cursor, b',') else {
-        return Decimal::Malformed;
-    };
-    number(text, next)
+    number(text, expect(text, at, b',')?)
 }

@@ -1,5 +1,5 @@
 pub mod AddLaws
 pub mod JudgeLaws
 pub mod StepLaws
-pub mod ReadLaws
 pub mod TableLaws
+pub mod ReadLaws

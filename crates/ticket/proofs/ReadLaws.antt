@@ -2,8 +2,9 @@
 use mathlib.Core.Path.{◌≡◌, refl, sym, ◌∙◌}
 use mathlib.Core.Bool.{Bool, true, false, not}
 use mathlib.Core.List.{List, ◌∷◌, ◌++◌, []}
-use mathlib.Core.Option.{Option, none, some}
-use Prim.Native.Nat.{ℕ, zero, suc, ◌+◌, ◌-◌, ◌*◌, ◌/◌, ◌≤◌, ◌<◌, min}
+use Rattle.std.specs.Prelude.{Option, None, Some, MatchOption, Result, Ok, Err, MatchResult, IsErrAnd}
+use Rattle.std.proofs.lemmas.Result.{err_from_is_err_and}
+use Prim.Native.Nat.{ℕ, zero, suc, ◌+◌, ◌-◌, ◌*◌, ◌≤◌, ◌<◌, min}
 use native.Mathlib.Omega.{arith}
 use native.Mathlib.Numerals.{add-one}
 use lib.Dec.{eqb, leb, lit≤}
@@ -17,22 +18,15 @@ use Rattle.fields.proofs.Marks.{split_from, split_some}
 use Rattle.spec.specs.Limits.{text_limit}
 use Rattle.spec.specs.Forms.{line_of}
 use Rattle.spec.specs.Read.{Reading, stop, go, step, Read, refused, accepted, left_places, left_nodes, least, left_over, at_end, at_tail, read_lines, start, read_ticket}
-use Rattle.line_checks.specs.Rows.{row_at, word_at, section, place_row, node_row, marked, tables_by_counts, used_in, reading_of, Few, Held, RoomIs, nodes_from, most_lines}
-use Rattle.line_checks.specs.Keys.{Keyed}
-use Rattle.ticket.specs.Judged.{StepAt, LineGoes}
-use Rattle.ticket.specs.Answers.{least_of, joined, with_left, least_rows, but_last, left_of, Answered, advance_of, Advance, behind_of, Begun}
+use Rattle.answers.specs.declared.Refusal.{Refusal}
+use Rattle.answers.specs.Refusals.{refusal_number}
+use Rattle.line_checks.specs.Rows.{row_at, word_at, section, place_row, node_row, marked, tables_by_counts, used_in, reading_of, Held, nodes_from}
+use Rattle.ticket.specs.Judged.{StepAt}
+use Rattle.ticket.specs.Answers.{joined, with_left, least_rows, but_last, left_of, Answered, advance_of, Advance, Begun}
 use Rattle.tables.specs.declared.Counts.{Counts}
-use Rattle.ticket.specs.declared.Least.{Least}
-use Rattle.ticket.specs.declared.Least.TheVariants.{Line, Nothing}
-use Rattle.ticket.specs.declared.Advanced.{Advanced}
-use Rattle.ticket.specs.declared.Advanced.TheVariants.{Behind, Stopped}
-use Rattle.ticket.specs.declared.ReadAnswer.{ReadAnswer}
-use Rattle.ticket.specs.declared.ReadAnswer.TheVariants.{Refused, Accepted}
-use Rattle.ticket.specs.declared.Stepped.{Stepped}
-use Rattle.ticket.specs.declared.Stepped.TheVariants.{Went, Turned}
+use Rattle.ticket.specs.declared.ReadError.{ReadError}
 use Rattle.line_checks.proofs.RowLaws.{length_section}
 use Rattle.ticket.proofs.TableLaws.{tables_are}
-use Rattle.line_checks.proofs.MarkLaws.{no_truth}
 
 -- ---------------------------------------------------------------- lines left over
 
@@ -40,14 +34,14 @@ onto : List ℕ → Option ℕ → Option ℕ
 onto [] o = o
 onto (x ∷ xs) o = joined x (onto xs o)
 
-least_is : (xs : List ℕ) → least xs ≡ onto xs none
+least_is : (xs : List ℕ) → least xs ≡ onto xs None
 unfolding least onto
 least_is [] = refl
-least_is (x ∷ xs) = rw (least_is xs) (by (onto xs none))
+least_is (x ∷ xs) = rw (least_is xs) (by (onto xs None))
   where
-    by : (o : Option ℕ) → elim o as (λ y. Option ℕ) [ none ↦ some x | some y ↦ some (min x y) ] ≡ joined x o
-    by none = refl
-    by (some y) = refl
+    by : (o : Option ℕ) → elim o as (λ y. Option ℕ) [ None ↦ Some x | Some y ↦ Some (min x y) ] ≡ joined x o
+    by None = refl
+    by (Some y) = refl
 
 onto_both : (xs ys : List ℕ) (o : Option ℕ) → onto (xs ++ ys) o ≡ onto xs (onto ys o)
 unfolding onto
@@ -77,7 +71,7 @@ module _ (ws ls : List ℕ) (base : ℕ) where
       by false = refl
 
   nodes_left : (i n : ℕ)
-      → onto (left_nodes (tab (λ k. node_row ls (row_at ws (row_of base k))) i n) (tab (λ k. marked (row_at ws (row_of base k))) i n)) none ≡ least_rows ws base i (but_last n) none
+      → onto (left_nodes (tab (λ k. node_row ls (row_at ws (row_of base k))) i n) (tab (λ k. marked (row_at ws (row_of base k))) i n)) None ≡ least_rows ws base i (but_last n) None
   unfolding tab left_nodes onto least_rows
   nodes_left i zero = refl
   nodes_left i (suc zero) = refl
@@ -86,7 +80,7 @@ module _ (ws ls : List ℕ) (base : ℕ) where
       xs : List ℕ
       xs = left_nodes (tab (λ k. node_row ls (row_at ws (row_of base k))) (suc i) (suc n)) (tab (λ k. marked (row_at ws (row_of base k))) (suc i) (suc n))
 
-      by : (t : Bool) → onto (elim t as (λ x. List ℕ) [ true ↦ xs | false ↦ (row_at ws (row_of base i)).third ∷ xs ]) none ≡ pick t (onto xs none) (joined (row_at ws (row_of base i)).third (onto xs none))
+      by : (t : Bool) → onto (elim t as (λ x. List ℕ) [ true ↦ xs | false ↦ (row_at ws (row_of base i)).third ∷ xs ]) None ≡ pick t (onto xs None) (joined (row_at ws (row_of base i)).third (onto xs None))
       by true = refl
       by false = refl
 
@@ -95,8 +89,8 @@ unfolding left_over reading_of tables_by_counts used_in section
 left_is ws ls c =
     least_is _
     ∙ onto_both (left_places (tab (λ k. place_row ls (row_at ws (row_of places_from k))) 0 c.places) (tab (λ k. marked (row_at ws (row_of places_from k))) 0 c.places))
-    (left_nodes (tab (λ k. node_row ls (row_at ws (row_of nodes_from k))) 0 c.nodes) (tab (λ k. marked (row_at ws (row_of nodes_from k))) 0 c.nodes)) none
-    ∙ rw (nodes_left ws ls nodes_from 0 c.nodes) (places_left ws ls places_from (least_rows ws nodes_from 0 (but_last c.nodes) none) 0 c.places)
+    (left_nodes (tab (λ k. node_row ls (row_at ws (row_of nodes_from k))) 0 c.nodes) (tab (λ k. marked (row_at ws (row_of nodes_from k))) 0 c.nodes)) None
+    ∙ rw (nodes_left ws ls nodes_from 0 c.nodes) (places_left ws ls places_from (least_rows ws nodes_from 0 (but_last c.nodes) None) 0 c.places)
 
 nodes_length : (ws ls : List ℕ) (c : Counts) → length (reading_of ws ls c).tables.nodes ≡ c.nodes
 unfolding reading_of tables_by_counts
@@ -106,24 +100,34 @@ lines_suc : (ws ls : List ℕ) (c : Counts) → refused 2 (c.lines + 1) ≡ refu
 unfolding reading_of
 lines_suc ws ls c = rw add-one
 
-tables_in : (ws ls : List ℕ) (c : Counts) → accepted (tables_of ws (drop 30 ws) ls c) ≡ accepted (reading_of ws ls c).tables
+tables_in : (ws ls : List ℕ) (c : Counts) → accepted (tables_of ws ls c) ≡ accepted (reading_of ws ls c).tables
 unfolding reading_of
 tables_in ws ls c = rw (tables_are ws ls c)
 
-module _ (ws ls : List ℕ) (c : Counts) (r : Least) (p : least_of r ≡ left_of ws c) where
-  pub end_left : (n : ℕ) → r ≡ Line n → Answered (at_end (reading_of ws ls c)) ws ls (Refused 7 n)
-  unfolding at_end
-  end_left n e = record { answer = rw (left_is ws ls c, ← p, e); held = tt }
+-- a refusal for a line
+abbrev pub refusing : Refusal → ℕ → Result Counts ReadError
+refusing r n = Err (ReadError.Refused (record { refusal = r; line = n }))
 
-  pub end_none : r ≡ Nothing → c.nodes ≡ 0 → Answered (at_end (reading_of ws ls c)) ws ls (Refused 2 (c.lines + 1))
+module _ (ws ls : List ℕ) (c : Counts) where
+  pub end_left : (n : ℕ) → Some n ≡ left_of ws c → Answered (at_end (reading_of ws ls c)) ws ls (refusing Refusal.NotOnce n)
   unfolding at_end
-  end_none e h = record { answer = rw (left_is ws ls c, ← p, e, nodes_length ws ls c, eq-eqb c.nodes 0 h) (lines_suc ws ls c); held = tt }
+  end_left n p = record { answer = rw (left_is ws ls c, ← p); held = tt }
 
-  pub end_accepted : r ≡ Nothing → (c.nodes ≡ 0 → ⊥) → Held ws c → c.used ≤ length ls → Answered (at_end (reading_of ws ls c)) ws ls (Accepted c)
+  pub end_none : None ≡ left_of ws c → c.nodes ≡ 0 → Answered (at_end (reading_of ws ls c)) ws ls (refusing Refusal.BadForm (c.lines + 1))
   unfolding at_end
-  end_accepted e h g l = record { answer = rw (left_is ws ls c, ← p, e, nodes_length ws ls c, ne_eqb c.nodes 0 h) (tables_in ws ls c); held = (g, l) }
+  end_none p h = record { answer = rw (left_is ws ls c, ← p, nodes_length ws ls c, eq-eqb c.nodes 0 h) (lines_suc ws ls c); held = tt }
+
+  pub end_accepted : None ≡ left_of ws c → (c.nodes ≡ 0 → ⊥) → Held ws c → c.used ≤ length ls → Answered (at_end (reading_of ws ls c)) ws ls (Ok c)
+  unfolding at_end
+  end_accepted p h g l = record { answer = rw (left_is ws ls c, ← p, nodes_length ws ls c, ne_eqb c.nodes 0 h) (tables_in ws ls c); held = (g, l) }
+
+pub ruleset ending = (end_left, end_none, end_accepted)
 
 -- ---------------------------------------------------------------- rows left over, one by one
+
+pub joined_by : (x r : ℕ) (o : Option ℕ) (Q : ℕ → Type 0) → MatchOption o (r ≡ x) Q → ((y : ℕ) → Q y → r ≡ min x y) → Some r ≡ joined x o
+joined_by x r None Q e f = rw e
+joined_by x r (Some y) Q e f = rw (f y e)
 
 pub row_marked : (ws : List ℕ) (base n k v : ℕ) (o : Option ℕ) → k < n → v ≡ cell ws base n k 5 0 → (v ≡ 0 → ⊥) → o ≡ with_left ws (row_of base k) o
 unfolding with_left cell word_at
@@ -151,27 +155,11 @@ rows_next ws base n k o p r q h l e =
     let y : suc (k - 1) ≡ k = omega arith in
     e ∙ rw (z, least_rows, y, q)
 
-pub joined_line : (x y : ℕ) (l : Least) → l ≡ Line y → x < y → some x ≡ joined x (least_of l)
-joined_line x y l e h = let z : min x y ≡ x = omega arith in rw (e, z)
+pub ruleset leaving = (rows_start, rows_end, rows_next)
 
-pub joined_other : (x y : ℕ) (l : Least) → l ≡ Line y → y ≤ x → some y ≡ joined x (least_of l)
-joined_other x y l e h = let z : min x y ≡ y = omega arith in rw (e, z)
-
-pub joined_none : (x : ℕ) (l : Least) → l ≡ Nothing → some x ≡ joined x (least_of l)
-joined_none x l e = rw e
-
-pub behind_line : (r : Advanced) (k : Counts) (p at : ℕ) → r ≡ Behind k p → p ≡ behind_of r at
-behind_line r k p at e = rw e
-
-pub behind_none : (r : Advanced) (n at : ℕ) → r ≡ Stopped n → at ≡ behind_of r at
-behind_none r n at e = rw e
-
-pub last_zero : (n : ℕ) → n ≡ 0 → 0 ≡ but_last n
-last_zero n e = rw e
-
-pub last_less : (n : ℕ) → (n ≡ 0 → ⊥) → n - 1 ≡ but_last n
-last_less zero h = absurd (h refl)
-last_less (suc n) h = omega arith
+pub last_less : (n : ℕ) → n - 1 ≡ but_last n
+last_less zero = refl
+last_less (suc n) = omega arith
 
 -- ---------------------------------------------------------------- from line to line
 
@@ -191,78 +179,78 @@ tail_some : (s : List ℕ) (at e : ℕ) (R : Reading) → at < length s → e �
 tail_some s at e R h g = let z : e - at ≡ suc (e - at - 1) = omega arith in rw (drop-cons s at 0 h, z)
 
 module _ (s u v : List ℕ) (c : Counts) (at e : ℕ) (h : at < length s) (f : Found s at line_feed e) where
-  pub advance_tail : e ≡ length s → Advance s u v u v c at (Stopped 2)
+  pub advance_tail : e ≡ length s → Advance s u v u v c at at (Err Refusal.BadForm)
   unfolding advance_of read_lines
   advance_tail g =
       record {
         answer = sym (rw (split_from line_feed s at e f, lt-leb (e + 1) (length s) (omega arith)) (tail_some s at e (reading_of u v c) h g ∙ rw (lines_are u v c)));
-        ahead = tt;
+        ahead = refl;
       }
 
-  module _ (g : e ≡ length s → ⊥) (t ls : List ℕ) (r : Stepped)
-      (a : StepAt (step (reading_of u v c) (line_of (take (e - at) (drop at s)))) (take (e - at) (drop at s)) t ls c r) where
+  module _ (g : e ≡ length s → ⊥) (t ls : List ℕ) where
     inner : e < length s
     inner = omega (arith, g, f.high)
 
     first : split line_feed (drop at s) ≡ take (e - at) (drop at s) ∷ split line_feed (drop (e + 1) s)
     first = let l = inner in split_from line_feed s at e f ∙ rw (le-leb (e + 1) (length s) (omega arith))
 
-    pub advance_stop : (n : ℕ) → r ≡ Turned n → Advance s u v t ls c at (Stopped n)
+    pub advance_stop : (x : Refusal) → StepAt (step (reading_of u v c) (line_of (take (e - at) (drop at s)))) (take (e - at) (drop at s)) t ls c (Err x) → Advance s u v t ls c at at (Err x)
     unfolding advance_of
-    advance_stop n q =
+    advance_stop x a =
         record {
-          answer = sym (rw first (lines_stop (take (e - at) (drop at s)) line_feed (drop (e + 1) s) (reading_of u v c) n (sym a.answer ∙ rw q) ∙ rw (lines_are u v c)));
-          ahead = tt;
+          answer = sym (rw first (lines_stop (take (e - at) (drop at s)) line_feed (drop (e + 1) s) (reading_of u v c) (refusal_number x) (sym a.answer) ∙ rw (lines_are u v c)));
+          ahead = refl;
         }
 
     part : length (take (e - at) (drop at s)) ≡ e - at
     part = length-take-le (e - at) (drop at s) (rw (length-drop at s) (omega (arith, f.high)))
 
-    pub advance_go : (k : Counts) → r ≡ Went k → c.used * 2 ≤ at → Advance s u v t ls c at (Behind k (e + 1))
+    pub advance_go : (k : Counts) → StepAt (step (reading_of u v c) (line_of (take (e - at) (drop at s)))) (take (e - at) (drop at s)) t ls c (Ok k) → c.used * 2 ≤ at
+        → Advance s u v t ls c at (e + 1) (Ok k)
     unfolding advance_of
-    advance_go k q w =
-        let y : LineGoes (take (e - at) (drop at s)) t ls c (Went k) = (rw q at a).goes in
+    advance_go k a w =
+        let y = a.goes in
         let l = inner in
         record {
-          answer = sym (rw first (lines_go (take (e - at) (drop at s)) line_feed (drop (e + 1) s) (reading_of u v c) (reading_of t ls k) (sym a.answer ∙ rw q)));
+          answer = sym (rw first (lines_go (take (e - at) (drop at s)) line_feed (drop (e + 1) s) (reading_of u v c) (reading_of t ls k) (sym a.answer)));
           ahead = (y.0, y.1, omega (arith, y.2, part, f.low), y.3, omega (arith, f.low), omega arith);
         }
 
--- ---------------------------------------------------------------- room
-
-module _ (n : ℕ) (c : Counts) where
-  pub has_room : c.types < n / 40 → c.storages < n / 40 → c.variables < n / 40 → c.statics < n / 40 → c.places < n / 40 → c.nodes < n / 40 → RoomIs n c true
-  has_room a b d e f g =
-      record {
-        enough = λ _. record { types = omega arith; storages = omega arith; variables = omega arith; statics = omega arith; places = omega arith; nodes = omega arith };
-        short = λ q few. absurd (no_truth (sym q));
-      }
-
-  -- a kind has as many lines as there are rows for it
-  pub no_room : (m : ℕ) → (Few c → m ≤ most_lines) → n / 40 ≤ m → RoomIs n c false
-  no_room m l h = record { enough = λ q. absurd (no_truth q); short = λ q few. let g = l few in omega arith }
+pub ruleset advancing = (advance_tail, advance_stop, advance_go)
 
 -- ---------------------------------------------------------------- the loop
 
-answered_as : {o p : Read} {t ls : List ℕ} {r : ReadAnswer} → o ≡ p → Answered p t ls r → Answered o t ls r
+answered_as : {o p : Read} {t ls : List ℕ} {r : Result Counts ReadError} → o ≡ p → Answered p t ls r → Answered o t ls r
 answered_as e a = rw e a
 
-pub ahead_of : (s u v t ls : List ℕ) (c : Counts) (at : ℕ) (r : Advanced) (k : Counts) (p : ℕ) → Advance s u v t ls c at r → r ≡ Behind k p
-    → Held t k × Keyed t ls k.types × (k.used * 2 ≤ p) × (k.lines ≡ c.lines + 1) × (at < p) × (p ≤ length s)
-ahead_of s u v t ls c at r k p a e = (rw e at a).ahead
-
 module _ (o : Read) (s u v : List ℕ) (c : Counts) (at : ℕ) (q : o ≡ read_lines (split line_feed (drop at s)) (reading_of u v c)) where
-  pub lines_next : (t ls : List ℕ) (r : Advanced) (k : Counts) (p : ℕ) → Advance s u v t ls c at r → r ≡ Behind k p → o ≡ read_lines (split line_feed (drop p s)) (reading_of t ls k)
+  pub lines_next : (t ls : List ℕ) (k : Counts) (p : ℕ) → Advance s u v t ls c at p (Ok k) → o ≡ read_lines (split line_feed (drop p s)) (reading_of t ls k)
   unfolding advance_of
-  lines_next t ls r k p a e = q ∙ sym a.answer ∙ rw e
+  lines_next t ls k p a = q ∙ sym a.answer
 
-  pub lines_stopped : (t ls : List ℕ) (r : Advanced) (n : ℕ) → Advance s u v t ls c at r → r ≡ Stopped n → Answered o t ls (Refused n (c.lines + 1))
+  pub lines_stopped : (t ls : List ℕ) (x : Refusal) (p : ℕ) → Advance s u v t ls c at p (Err x) → Answered o t ls (refusing x (c.lines + 1))
   unfolding advance_of
-  lines_stopped t ls r n a e = record { answer = sym (q ∙ sym a.answer ∙ rw e); held = tt }
+  lines_stopped t ls x p a = record { answer = sym (q ∙ sym a.answer); held = tt }
 
-  pub lines_over : (r : ReadAnswer) → length s ≤ at → Answered (at_end (reading_of u v c)) u v r → Answered o u v r
+  -- where the reader's answer is told with the line's number
+  pub lines_left : (t ls : List ℕ) (p : ℕ) (r : Result Counts Refusal) (m n : Result Counts ReadError) (y : ReadError) (Q : Refusal → ReadError → Type 0) → Advance s u v t ls c at p r
+      → MatchResult r (λ k. m ≡ Ok k) (λ x. IsErrAnd m (Q x)) → ((x : Refusal) (z : ReadError) → Q x z → z ≡ ReadError.Refused (record { refusal = x; line = c.lines + 1 })) → m ≡ Err y
+      → IsErrAnd n (λ z. z ≡ y) → Answered o t ls n
+  lines_left t ls p (Ok k) m n y Q a g w e h = cc
+  lines_left t ls p (Err x) m n y Q a g w e h =
+      let d = err_from_is_err_and m g in
+      let f = err_from_is_err_and n h in
+      let i = w x d.0 d.2 in
+      let b : n ≡ refusing x (c.lines + 1) = cc in
+      rw b (lines_stopped t ls x p a)
+
+  pub lines_over : (r : Result Counts ReadError) → length s ≤ at → Answered (at_end (reading_of u v c)) u v r → Answered o u v r
   unfolding split read_lines
   lines_over r h a = answered_as (q ∙ rw (drop_of_length-le s h)) a
+
+pub went : (r : Result Counts Refusal) (m : Result Counts ReadError) (k : Counts) (Q : Refusal → ReadError → Type 0) → MatchResult r (λ k. m ≡ Ok k) (λ x. IsErrAnd m (Q x)) → m ≡ Ok k → r ≡ Ok k
+went (Ok k') m k Q g e = cc
+went (Err x) m k Q g e = let d = err_from_is_err_and m g in cc
 
 pub lines_begin : (s u v : List ℕ) (c : Counts) → Begun c → read_lines (split line_feed s) start ≡ read_lines (split line_feed (drop 0 s)) (reading_of u v c)
 lines_begin s u v c b = rw (b.reading u v)
@@ -287,7 +275,7 @@ begun =
       lines = refl;
     }
 
-pub ticket_long : (s ws ls : List ℕ) → text_limit < length s → Answered (read_ticket s) ws ls (Refused 1 0)
+pub ticket_long : (s ws ls : List ℕ) → text_limit < length s → Answered (read_ticket s) ws ls (refusing Refusal.LongText 0)
 unfolding read_ticket
 ticket_long s ws ls h = record { answer = by (leb (length s) text_limit) (lt-leb (length s) text_limit h); held = tt }
   where
@@ -303,5 +291,5 @@ lines_of s h = by (leb (length s) text_limit) (le-leb (length s) text_limit h)
     by true q = refl
     by false q = cc
 
-pub ticket_lines : (s ws ls : List ℕ) (r : ReadAnswer) → length s ≤ text_limit → Answered (read_lines (split line_feed s) start) ws ls r → Answered (read_ticket s) ws ls r
+pub ticket_lines : (s ws ls : List ℕ) (r : Result Counts ReadError) → length s ≤ text_limit → Answered (read_lines (split line_feed s) start) ws ls r → Answered (read_ticket s) ws ls r
 ticket_lines s ws ls r h a = answered_as (lines_of s h) a

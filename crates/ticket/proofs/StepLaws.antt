@@ -2,8 +2,8 @@
 use mathlib.Core.Path.{◌≡◌, refl, sym, ap, fun_ext, ◌∙◌}
 use mathlib.Core.Bool.{Bool, true, false, ◌&&◌}
 use mathlib.Core.List.{List, ◌∷◌, ◌++◌, []}
-use mathlib.Core.Option.{Option, none, some}
-use Prim.Native.Nat.{ℕ, zero, suc, ◌+◌, ◌*◌, ◌≤◌, ◌<◌}
+use Rattle.std.specs.Prelude.{Option, None, Some, Result, Ok, Err, IfOk}
+use Prim.Native.Nat.{ℕ, suc, ◌+◌, ◌*◌, ◌≤◌, ◌<◌}
 use native.Mathlib.Omega.{arith}
 use native.Mathlib.Numerals.{add-one}
 use lib.Dec.{leb, ltb}
@@ -13,35 +13,32 @@ use Rattle.tables.specs.Tables.{pick, row_of, run, storages_from, variables_from
 use Rattle.fields.specs.Fields.{Kept}
 use Rattle.fields.proofs.Tabs.{run_kept, tab_same}
 use Rattle.spec.specs.Limits.{size_sum_limit, weight_sum_limit, type_size_limit, type_weight_limit}
-use Rattle.spec.specs.Ticket.{Tables, type_at, no_type, no_place, no_node, arg, type_size_by, weight_by}
-use Rattle.spec.specs.Forms.{Arg, Field, between, float_width, type_part, type, storage, place, node, Line, values, line_of}
-use Rattle.spec.specs.Read.{Reading, Step, stop, Test, test, first_failed, refusal_of, step, StepBy, add, add_line, all, rank, in_order, few_enough, in_range, fields_fit, earlier, earlier_of, types_right, small_enough, size_of, weight_of, once, depth_of, deepest, depth_of_field, depth_allowed, own_size, own_weight, sums_fit, right_start}
-use Rattle.line_forms.specs.Classes.{head_of, args_of, line_from, FormAt}
-use Rattle.line_checks.specs.Rows.{Row, row_at, word_at, section, type_row, storage_row, placed_row, place_row, node_row, numbers, tables_by_counts, used_in, reading_of, Inside, Held, nodes_from}
+use Rattle.spec.specs.Ticket.{type_at, no_type, no_place, no_node, arg, type_size_by, weight_by}
+use Rattle.spec.specs.Forms.{Arg, Field, between, float_width, type_part, type, storage, place, node, Line, line_of}
+use Rattle.spec.specs.Read.{Reading, Step, stop, Test, test, first_failed, refusal_of, step, StepBy, add, add_line, all, rank, in_order, few_enough, in_range, fields_fit, earlier, earlier_of, types_right, small_enough, size_of, weight_of, once, depth_of, deepest, depth_of_field, depth_allowed, own_size, own_weight, sums_fit}
+use Rattle.answers.specs.declared.Refusal.{Refusal}
+use Rattle.answers.specs.Refusals.{refusal_number}
+use Rattle.line_forms.specs.Classes.{head_of, line_from, FormAt}
+use Rattle.line_checks.specs.Rows.{row_at, word_at, section, type_row, storage_row, placed_row, place_row, node_row, numbers, tables_by_counts, used_in, reading_of, Inside, Held, nodes_from}
+use Rattle.line_checks.specs.declared.rows.Row.{Row}
+use Rattle.line_checks.specs.declared.Measure.{Measure}
+use Rattle.line_checks.specs.declared.types.Part.TheVariants.{Size, Weight}
+use Rattle.line_checks.specs.Types.{part_of}
 use Rattle.line_checks.specs.Keys.{Keyed}
-use Rattle.line_checks.specs.Steps.{verdict_of, few_by_counts, earlier_in, earlier_arg, depth_in, deepest_in, early_tests, Measure, measured}
+use Rattle.line_checks.specs.Steps.{few_by_counts, earlier_in, earlier_arg, depth_in, deepest_in, args_in, early_tests, both_within}
 use Rattle.ticket.specs.Grown.{grown}
-use Rattle.ticket.specs.Judged.{start_in, types_in, sized_in, allowed_in, own_in, summed, extent, with_sums, with_depth, with_test, with_size, late_step, marking, Judged, Goes, LineGoes, StepAt}
+use Rattle.ticket.specs.Judged.{types_in, sized_in, nothing, allowed_in, added_in, extent, with_test, with_measure, with_depth, late_step, marking, numbers_of, Open, Judged, StepAt}
 use Rattle.line_forms.specs.declared.LineKind.{LineKind}
 use Rattle.line_forms.specs.declared.LineKind.TheVariants.{Functions, Types, Storages, Variables, Statics, Places, Nodes}
 use Rattle.tables.specs.declared.Counts.{Counts}
 use Rattle.line_forms.specs.declared.Form.{Form}
-use Rattle.line_forms.specs.declared.Formed.{Formed}
-use Rattle.line_forms.specs.declared.Formed.TheVariants.{Line as Lined, Unformed}
-use Rattle.line_checks.specs.declared.Verdict.{Verdict}
-use Rattle.line_checks.specs.declared.Verdict.TheVariants.{Passed, Refused}
-use Rattle.ticket.specs.declared.Stepped.{Stepped}
-use Rattle.ticket.specs.declared.Stepped.TheVariants.{Went, Turned}
 use Rattle.line_checks.proofs.RowLaws.{section_at, section_past, length_section}
-use Rattle.line_checks.proofs.CheckLaws.{values_of}
+use Rattle.line_checks.proofs.CheckLaws.{args_run, values_in}
 use Rattle.line_checks.proofs.KeyLaws.{keyed_lists}
 
 -- ---------------------------------------------------------------- tables by the words
 
 module _ (ws ls : List ℕ) (c : Counts) where
-  T : Tables
-  T = tables_by_counts ws ls c
-
   type_entry : {A : Type 0} (f : Row → A) (d : A) (g : A → ℕ) (base n k j other : ℕ) → ((q : ℕ) → g (f (row_at ws q)) ≡ word_at ws q j) → g d ≡ other
       → g (get_or (section f ws base n) k d) ≡ cell ws base n k j other
   unfolding cell word_at
@@ -51,11 +48,11 @@ module _ (ws ls : List ℕ) (c : Counts) where
       by true q = rw (section_at f ws base n k d (ltb-true k n q)) (h (row_of base k))
       by false q = rw (section_past f ws base n k d (ltb-false k n q)) e
 
-  pub size_entry : (x : ℕ) → (type_at (tables_by_counts ws ls c) x).size ≡ cell ws 0 c.types x 3 0
+  size_entry : (x : ℕ) → (type_at (tables_by_counts ws ls c) x).size ≡ cell ws 0 c.types x 3 0
   unfolding tables_by_counts row_at
   size_entry x = type_entry (type_row ls) no_type (λ t. t.size) 0 c.types x 3 0 (λ q. refl) refl
 
-  pub weight_entry : (x : ℕ) → (type_at (tables_by_counts ws ls c) x).weight ≡ cell ws 0 c.types x 4 1
+  weight_entry : (x : ℕ) → (type_at (tables_by_counts ws ls c) x).weight ≡ cell ws 0 c.types x 4 1
   unfolding tables_by_counts row_at
   weight_entry x = type_entry (type_row ls) no_type (λ t. t.weight) 0 c.types x 4 1 (λ q. refl) refl
 
@@ -69,7 +66,7 @@ module _ (ws ls : List ℕ) (c : Counts) where
   depth_entry place x = type_entry (place_row ls) no_place (λ t. t.depth) places_from c.places x 4 0 (λ q. refl) refl
   depth_entry node x = type_entry (node_row ls) no_node (λ t. t.depth) nodes_from c.nodes x 4 0 (λ q. refl) refl
 
-  pub deepest_entry : (xa : List Arg) → deepest (tables_by_counts ws ls c) xa ≡ deepest_in ws c xa
+  deepest_entry : (xa : List Arg) → deepest (tables_by_counts ws ls c) xa ≡ deepest_in ws c xa
   unfolding deepest_in
   deepest_entry [] = refl
   deepest_entry (a ∷ xa) = rw (depth_entry a.class a.value, deepest_entry xa)
@@ -98,38 +95,33 @@ module _ (ws ls : List ℕ) (c : Counts) where
   all_entry [] = refl
   all_entry (a ∷ xa) = rw (earlier_entry a.class a.value, all_entry xa)
 
-  start_entry : (n w : ℕ) → right_start n (type_word_by w) ≡ start_in n w
-  start_entry zero w = refl
-  start_entry (suc zero) w = refl
-  start_entry (suc (suc n)) w = refl
-
-  types_entry : (k : LineKind) (w n : ℕ) → types_right (tables_by_counts ws ls c) (head_of k w) (run ls c.used n) ≡ types_in ws ls c k w n
+  types_entry : (k : LineKind) (w : ℕ) (xs : List ℕ) → types_right (tables_by_counts ws ls c) (head_of k w) xs ≡ types_in ws ls c k w xs
   unfolding tables_by_counts
-  types_entry Functions w n = refl
-  types_entry Types w n = rw (length_section (type_row ls) ws 0 c.types, start_entry c.types w)
-  types_entry Storages w n = rw (length_section (type_row ls) ws 0 c.types)
-  types_entry Variables w n = rw (length_section (type_row ls) ws 0 c.types)
-  types_entry Statics w n = rw (length_section (type_row ls) ws 0 c.types)
-  types_entry Places w n = rw (length_section (type_row ls) ws 0 c.types)
-  types_entry Nodes w n = rw (length_section (type_row ls) ws 0 c.types)
+  types_entry Functions w xs = refl
+  types_entry Types w xs = rw (length_section (type_row ls) ws 0 c.types)
+  types_entry Storages w xs = rw (length_section (type_row ls) ws 0 c.types)
+  types_entry Variables w xs = rw (length_section (type_row ls) ws 0 c.types)
+  types_entry Statics w xs = rw (length_section (type_row ls) ws 0 c.types)
+  types_entry Places w xs = rw (length_section (type_row ls) ws 0 c.types)
+  types_entry Nodes w xs = rw (length_section (type_row ls) ws 0 c.types)
 
-  own_size_entry : (k : LineKind) (w n : ℕ) → own_size (tables_by_counts ws ls c) (head_of k w) (run ls c.used n) ≡ own_in ws ls c k n 3 0
-  own_size_entry Functions w n = refl
-  own_size_entry Types w n = refl
-  own_size_entry Storages w n = refl
-  own_size_entry Variables w n = refl
-  own_size_entry Statics w n = refl
-  own_size_entry Places w n = refl
-  own_size_entry Nodes w n = size_entry (arg (run ls c.used n) 0)
+  own_size_entry : (k : LineKind) (w : ℕ) (xs : List ℕ) → own_size (tables_by_counts ws ls c) (head_of k w) xs ≡ (added_in ws c.types k xs).size
+  own_size_entry Functions w xs = refl
+  own_size_entry Types w xs = refl
+  own_size_entry Storages w xs = refl
+  own_size_entry Variables w xs = refl
+  own_size_entry Statics w xs = refl
+  own_size_entry Places w xs = refl
+  own_size_entry Nodes w xs = size_entry (arg xs 0)
 
-  own_weight_entry : (k : LineKind) (w n : ℕ) → own_weight (tables_by_counts ws ls c) (head_of k w) (run ls c.used n) ≡ own_in ws ls c k n 4 1
-  own_weight_entry Functions w n = refl
-  own_weight_entry Types w n = refl
-  own_weight_entry Storages w n = refl
-  own_weight_entry Variables w n = refl
-  own_weight_entry Statics w n = refl
-  own_weight_entry Places w n = refl
-  own_weight_entry Nodes w n = weight_entry (arg (run ls c.used n) 0)
+  own_weight_entry : (k : LineKind) (w : ℕ) (xs : List ℕ) → own_weight (tables_by_counts ws ls c) (head_of k w) xs ≡ (added_in ws c.types k xs).weight
+  own_weight_entry Functions w xs = refl
+  own_weight_entry Types w xs = refl
+  own_weight_entry Storages w xs = refl
+  own_weight_entry Variables w xs = refl
+  own_weight_entry Statics w xs = refl
+  own_weight_entry Places w xs = refl
+  own_weight_entry Nodes w xs = weight_entry (arg xs 0)
 
   rank_entry : (k : LineKind) (w : ℕ) → rank (head_of k w) ≡ rank (head_of k 0)
   rank_entry Functions w = refl
@@ -156,13 +148,13 @@ unfolding with_test first_failed
 step_test R l n true ts = refl
 step_test R l n false ts = refl
 
-none_failed : first_failed [] ≡ none
+none_failed : first_failed [] ≡ None
 unfolding first_failed
 none_failed = refl
 
 or_else : Option ℕ → Option ℕ → Option ℕ
-or_else none o = o
-or_else (some n) o = some n
+or_else None o = o
+or_else (Some n) o = Some n
 
 first_both : (ts us : List Test) → first_failed (ts ++ us) ≡ or_else (first_failed ts) (first_failed us)
 unfolding first_failed or_else
@@ -183,132 +175,124 @@ depth_test d limit s = by (leb limit d) refl
     by true e = rw (lt-leb (suc d) limit (omega (arith, leb-true limit d e)))
     by false e = rw (le-leb (suc d) limit (omega (arith, leb-false limit d e)))
 
-sums_test : (a b : ℕ) (k : Measure → Step) → with_sums (summed a b) k ≡ with_test (leb a size_sum_limit && leb b weight_sum_limit) 10 (k (record { size = a; weight = b }))
-unfolding with_sums summed with_test
-sums_test a b k = by (leb a size_sum_limit && leb b weight_sum_limit)
+measure_test : (a b s w n : ℕ) (k : Measure → Step) → with_measure (both_within a b s w) n k ≡ with_test (leb s a && leb w b) n (k (record { size = s; weight = w }))
+unfolding with_measure both_within with_test
+measure_test a b s w n k = by (leb s a && leb w b)
   where
-    by : (t : Bool) → with_sums (pick t (some (record { size = a; weight = b })) none) k ≡ pick t (k (record { size = a; weight = b })) (stop 10)
+    by : (t : Bool) → with_measure (pick t (Some (record { size = s; weight = w })) None) n k ≡ pick t (k (record { size = s; weight = w })) (stop n)
     by true = refl
     by false = refl
 
-size_test : (a b : ℕ) (k : ℕ → ℕ → Step) → with_size (measured a b) k ≡ with_test (leb a type_size_limit && leb b type_weight_limit) 6 (k a b)
-unfolding with_size measured with_test
-size_test a b k = by (leb a type_size_limit && leb b type_weight_limit)
-  where
-    by : (t : Bool) → with_size (pick t (some (record { size = a; weight = b })) none) k ≡ pick t (k a b) (stop 6)
-    by true = refl
-    by false = refl
+-- what a line measures, whether it is small enough or not
+measure_for : List ℕ → ℕ → LineKind → ℕ → List ℕ → Measure
+measure_for ws n Functions w xs = nothing
+measure_for ws n Types w xs = record { size = type_size_by (part_of ws n Size) (type_word_by w) xs; weight = weight_by (part_of ws n Weight) (type_word_by w) xs }
+measure_for ws n Storages w xs = nothing
+measure_for ws n Variables w xs = nothing
+measure_for ws n Statics w xs = nothing
+measure_for ws n Places w xs = nothing
+measure_for ws n Nodes w xs = nothing
 
-size_for : List ℕ → List ℕ → Counts → LineKind → ℕ → ℕ → ℕ
-size_for ws ls c Functions w n = 0
-size_for ws ls c Types w n = type_size_by (λ t. cell ws 0 c.types t 3 0) (type_word_by w) (run ls c.used n)
-size_for ws ls c Storages w n = 0
-size_for ws ls c Variables w n = 0
-size_for ws ls c Statics w n = 0
-size_for ws ls c Places w n = 0
-size_for ws ls c Nodes w n = 0
+module _ (ws ls : List ℕ) (c : Counts) (w : ℕ) (xs : List ℕ) where
+  size_is : size_of (tables_by_counts ws ls c) (type_word_by w) xs ≡ type_size_by (part_of ws c.types Size) (type_word_by w) xs
+  size_is = ap (λ (g : ℕ → ℕ). type_size_by g (type_word_by w) xs) (fun_ext (size_entry ws ls c))
 
-weight_for : List ℕ → List ℕ → Counts → LineKind → ℕ → ℕ → ℕ
-weight_for ws ls c Functions w n = 0
-weight_for ws ls c Types w n = weight_by (λ t. cell ws 0 c.types t 4 1) (type_word_by w) (run ls c.used n)
-weight_for ws ls c Storages w n = 0
-weight_for ws ls c Variables w n = 0
-weight_for ws ls c Statics w n = 0
-weight_for ws ls c Places w n = 0
-weight_for ws ls c Nodes w n = 0
+  weight_is : weight_of (tables_by_counts ws ls c) (type_word_by w) xs ≡ weight_by (part_of ws c.types Weight) (type_word_by w) xs
+  weight_is = ap (λ (g : ℕ → ℕ). weight_by g (type_word_by w) xs) (fun_ext (weight_entry ws ls c))
 
-module _ (ws ls : List ℕ) (c : Counts) (w n : ℕ) where
-  size_is : size_of (tables_by_counts ws ls c) (type_word_by w) (run ls c.used n) ≡ type_size_by (λ t. cell ws 0 c.types t 3 0) (type_word_by w) (run ls c.used n)
-  size_is = ap (λ (g : ℕ → ℕ). type_size_by g (type_word_by w) (run ls c.used n)) (fun_ext (size_entry ws ls c))
-
-  weight_is : weight_of (tables_by_counts ws ls c) (type_word_by w) (run ls c.used n) ≡ weight_by (λ t. cell ws 0 c.types t 4 1) (type_word_by w) (run ls c.used n)
-  weight_is = ap (λ (g : ℕ → ℕ). weight_by g (type_word_by w) (run ls c.used n)) (fun_ext (weight_entry ws ls c))
-
-  sized_test : (k : LineKind) (X : ℕ → ℕ → Step)
-      → with_size (sized_in ws ls c k w n) X ≡ with_test (small_enough (tables_by_counts ws ls c) (head_of k w) (run ls c.used n)) 6 (X (size_for ws ls c k w n) (weight_for ws ls c k w n))
-  unfolding with_size with_test size_for weight_for
+  sized_test : (k : LineKind) (X : Measure → Step)
+      → with_measure (sized_in ws c.types k w xs) 6 X ≡ with_test (small_enough (tables_by_counts ws ls c) (head_of k w) xs) 6 (X (measure_for ws c.types k w xs))
+  unfolding with_measure with_test measure_for
   sized_test Functions X = refl
-  sized_test Types X = size_test (size_for ws ls c Types w n) (weight_for ws ls c Types w n) X ∙ rw (size_is, weight_is)
+  sized_test Types X =
+      measure_test type_size_limit type_weight_limit (type_size_by (part_of ws c.types Size) (type_word_by w) xs) (weight_by (part_of ws c.types Weight) (type_word_by w) xs) 6 X
+      ∙ rw (size_is, weight_is)
   sized_test Storages X = refl
   sized_test Variables X = refl
   sized_test Statics X = refl
   sized_test Places X = refl
   sized_test Nodes X = refl
 
+-- a line of these numbers
+abbrev line_in : Form → List ℕ → Line
+line_in f xs = record { head = head_of f.kind f.word; args = args_in f.kind f.word xs }
+
+line_lent : (f : Form) (ls : List ℕ) (used : ℕ) → line_from f ls used ≡ line_in f (run ls used f.count)
+unfolding line_from
+line_lent f ls used = rw (args_run f ls used)
+
+module _ (ws ls : List ℕ) (c : Counts) (w n : ℕ) (xs : List ℕ) where
+  abbrev F : LineKind → Form
+  F k = record { kind = k; word = w; count = n }
+
+  abbrev D : LineKind → ℕ
+  D k = deepest_in ws c (args_in k w xs)
+
   grown_add : (k : LineKind)
-      → grown (marking (reading_of ws ls c) (record { kind = k; word = w; count = n }) ls c.used) k w (run ls c.used n)
-      (extent (size_for ws ls c k w n) (weight_for ws ls c k w n) (deepest_in ws c (args_of (record { kind = k; word = w; count = n }) ls c.used) + 1)
-      (record { size = c.sizes + own_in ws ls c k n 3 0; weight = c.weights + own_in ws ls c k n 4 1 }))
-      ≡ add (reading_of ws ls c) (line_from (record { kind = k; word = w; count = n }) ls c.used)
-  unfolding reading_of line_from add add_line depth_of size_for weight_for
-  grown_add Functions = rw (values_of (record { kind = Functions; word = w; count = n }) ls c.used, add-one c.lines)
-  grown_add Types = rw (values_of (record { kind = Types; word = w; count = n }) ls c.used, size_is, weight_is, deepest_entry ws ls c (args_of (record { kind = Types; word = w; count = n }) ls c.used), add-one (deepest_in ws c (args_of (record { kind = Types; word = w; count = n }) ls c.used)), add-one c.lines)
-  grown_add Storages = rw (values_of (record { kind = Storages; word = w; count = n }) ls c.used, add-one c.lines)
-  grown_add Variables = rw (values_of (record { kind = Variables; word = w; count = n }) ls c.used, add-one c.lines)
-  grown_add Statics = rw (values_of (record { kind = Statics; word = w; count = n }) ls c.used, add-one c.lines)
-  grown_add Places = rw (values_of (record { kind = Places; word = w; count = n }) ls c.used, deepest_entry ws ls c (args_of (record { kind = Places; word = w; count = n }) ls c.used), add-one (deepest_in ws c (args_of (record { kind = Places; word = w; count = n }) ls c.used)), add-one c.lines)
-  grown_add Nodes = rw (values_of (record { kind = Nodes; word = w; count = n }) ls c.used, deepest_entry ws ls c (args_of (record { kind = Nodes; word = w; count = n }) ls c.used), add-one (deepest_in ws c (args_of (record { kind = Nodes; word = w; count = n }) ls c.used)), size_entry ws ls c (arg (run ls c.used n) 0), weight_entry ws ls c (arg (run ls c.used n) 0), add-one c.lines)
+      → grown (marking (reading_of ws ls c) (F k) xs) k w xs
+      (extent (measure_for ws c.types k w xs) (D k + 1) (record { size = c.sizes + (added_in ws c.types k xs).size; weight = c.weights + (added_in ws c.types k xs).weight }))
+      ≡ add (reading_of ws ls c) (line_in (F k) xs)
+  unfolding reading_of add add_line depth_of measure_for
+  grown_add Functions = rw (values_in Functions w xs, add-one c.lines)
+  grown_add Types = rw (values_in Types w xs, size_is ws ls c w xs, weight_is ws ls c w xs, deepest_entry ws ls c (args_in Types w xs), add-one (D Types), add-one c.lines)
+  grown_add Storages = rw (values_in Storages w xs, add-one c.lines)
+  grown_add Variables = rw (values_in Variables w xs, add-one c.lines)
+  grown_add Statics = rw (values_in Statics w xs, add-one c.lines)
+  grown_add Places = rw (values_in Places w xs, deepest_entry ws ls c (args_in Places w xs), add-one (D Places), add-one c.lines)
+  grown_add Nodes = rw (values_in Nodes w xs, deepest_entry ws ls c (args_in Nodes w xs), add-one (D Nodes), size_entry ws ls c (arg xs 0), weight_entry ws ls c (arg xs 0), add-one c.lines)
 
-module _ (ws ls : List ℕ) (c : Counts) (k : LineKind) (w n : ℕ) where
-  abbrev pub F : Form
-  F = record { kind = k; word = w; count = n }
-
+module _ (ws ls : List ℕ) (c : Counts) (f : Form) (xs : List ℕ) where
   late_tests : List Test
   late_tests =
-      test 5 (types_right (tables_by_counts ws ls c) (head_of k w) (values (args_of F ls c.used))) ∷
-      test 6 (small_enough (tables_by_counts ws ls c) (head_of k w) (values (args_of F ls c.used))) ∷
-      test 7 (once (args_of F ls c.used) (used_in ws c)) ∷
-      test 9 (leb (depth_of (tables_by_counts ws ls c) (args_of F ls c.used)) (depth_allowed (head_of k w))) ∷
-      test 10 (sums_fit (reading_of ws ls c) (head_of k w) (values (args_of F ls c.used))) ∷
+      test 5 (types_right (tables_by_counts ws ls c) (head_of f.kind f.word) xs) ∷
+      test 6 (small_enough (tables_by_counts ws ls c) (head_of f.kind f.word) xs) ∷
+      test 7 (once (args_in f.kind f.word xs) (used_in ws c)) ∷
+      test 9 (leb (depth_of (tables_by_counts ws ls c) (args_in f.kind f.word xs)) (depth_allowed (head_of f.kind f.word))) ∷
+      test 10 (sums_fit (reading_of ws ls c) (head_of f.kind f.word) xs) ∷
       []
 
-  late_is : StepBy (reading_of ws ls c) (line_from F ls c.used) (first_failed late_tests) ≡ late_step ws ls c F
+  late_is : StepBy (reading_of ws ls c) (line_in f xs) (first_failed late_tests) ≡ late_step ws ls c f xs
   unfolding late_tests late_step depth_of reading_of
   late_is =
       step_test _ _ 5 _ _
       ∙ rw (
-        step_test (reading_of ws ls c) (line_from F ls c.used) 6 (small_enough (tables_by_counts ws ls c) (head_of k w) (values (args_of F ls c.used))) _,
-        step_test (reading_of ws ls c) (line_from F ls c.used) 7 (once (args_of F ls c.used) (used_in ws c)) _,
-        step_test (reading_of ws ls c) (line_from F ls c.used) 9 (leb (suc (deepest (tables_by_counts ws ls c) (args_of F ls c.used))) (depth_allowed (head_of k w))) _,
-        step_test (reading_of ws ls c) (line_from F ls c.used) 10 (sums_fit (reading_of ws ls c) (head_of k w) (values (args_of F ls c.used))) [],
-        values_of F ls c.used,
-        types_entry ws ls c k w n,
-        sized_test ws ls c w n k,
-        depth_test (deepest_in ws c (args_of F ls c.used)) (allowed_in k),
-        sums_test (c.sizes + own_in ws ls c k n 3 0) (c.weights + own_in ws ls c k n 4 1),
-        allowed_entry ws ls c k w,
-        deepest_entry ws ls c (args_of F ls c.used),
-        own_size_entry ws ls c k w n,
-        own_weight_entry ws ls c k w n,
+        step_test (reading_of ws ls c) (line_in f xs) 6 (small_enough (tables_by_counts ws ls c) (head_of f.kind f.word) xs) _,
+        step_test (reading_of ws ls c) (line_in f xs) 7 (once (args_in f.kind f.word xs) (used_in ws c)) _,
+        step_test (reading_of ws ls c) (line_in f xs) 9 (leb (suc (deepest (tables_by_counts ws ls c) (args_in f.kind f.word xs))) (depth_allowed (head_of f.kind f.word))) _,
+        step_test (reading_of ws ls c) (line_in f xs) 10 (sums_fit (reading_of ws ls c) (head_of f.kind f.word) xs) [],
+        types_entry ws ls c f.kind f.word xs,
+        sized_test ws ls c f.word xs f.kind,
+        depth_test (deepest_in ws c (args_in f.kind f.word xs)) (allowed_in f.kind),
+        measure_test size_sum_limit weight_sum_limit (c.sizes + (added_in ws c.types f.kind xs).size) (c.weights + (added_in ws c.types f.kind xs).weight) 10,
+        allowed_entry ws ls c f.kind f.word,
+        deepest_entry ws ls c (args_in f.kind f.word xs),
+        own_size_entry ws ls c f.kind f.word xs,
+        own_weight_entry ws ls c f.kind f.word xs,
         none_failed,
-        grown_add ws ls c w n k,
+        grown_add ws ls c f.word f.count xs f.kind,
       )
 
-  early_is : first_failed (early_tests F ls c) ≡
-      first_failed (
-      test 2 (in_order c.stage (rank (head_of k w))) ∷
-      test 8 (few_enough (tables_by_counts ws ls c) (head_of k w)) ∷
-      test 3 (all in_range (args_of F ls c.used) && fields_fit (head_of k w) (values (args_of F ls c.used))) ∷
-      test 4 (all (λ a. earlier (tables_by_counts ws ls c) a) (args_of F ls c.used)) ∷
-      [])
-  early_is = rw (rank_entry ws ls c k w, few_entry ws ls c k w, values_of F ls c.used, all_entry ws ls c (args_of F ls c.used))
+  tests_before : List Test
+  tests_before =
+      test 2 (in_order c.stage (rank (head_of f.kind f.word))) ∷
+      test 8 (few_enough (tables_by_counts ws ls c) (head_of f.kind f.word)) ∷
+      test 3 (all in_range (args_in f.kind f.word xs) && fields_fit (head_of f.kind f.word) xs) ∷
+      test 4 (all (λ a. earlier (tables_by_counts ws ls c) a) (args_in f.kind f.word xs)) ∷
+      []
 
-  refusal_is : refusal_of (reading_of ws ls c) (line_from F ls c.used) ≡ or_else (first_failed (early_tests F ls c)) (first_failed late_tests)
-  unfolding refusal_of reading_of line_from late_tests
-  refusal_is =
-      first_both (
-      test 2 (in_order c.stage (rank (head_of k w))) ∷
-      test 8 (few_enough (tables_by_counts ws ls c) (head_of k w)) ∷
-      test 3 (all in_range (args_of F ls c.used) && fields_fit (head_of k w) (values (args_of F ls c.used))) ∷
-      test 4 (all (λ a. earlier (tables_by_counts ws ls c) a) (args_of F ls c.used)) ∷
-      []) late_tests
-      ∙ rw (← early_is)
+  early_is : first_failed (early_tests f xs c) ≡ first_failed tests_before
+  unfolding tests_before
+  early_is = rw (rank_entry ws ls c f.kind f.word, few_entry ws ls c f.kind f.word, all_entry ws ls c (args_in f.kind f.word xs))
 
-  pub step_early : (m : ℕ) → some m ≡ first_failed (early_tests F ls c) → stop m ≡ step (reading_of ws ls c) (some (line_from F ls c.used))
+  refusal_is : refusal_of (reading_of ws ls c) (line_in f xs) ≡ or_else (first_failed (early_tests f xs c)) (first_failed late_tests)
+  unfolding refusal_of reading_of tests_before late_tests
+  refusal_is = rw (values_in f.kind f.word xs) (first_both tests_before late_tests ∙ rw (← early_is))
+
+  step_early : (m : ℕ) → Some m ≡ first_failed (early_tests f xs c) → stop m ≡ step (reading_of ws ls c) (Some (line_in f xs))
   unfolding step or_else
   step_early m e = rw (refusal_is, ← e)
 
-  pub step_late : none ≡ first_failed (early_tests F ls c) → late_step ws ls c F ≡ step (reading_of ws ls c) (some (line_from F ls c.used))
+  step_late : None ≡ first_failed (early_tests f xs c) → late_step ws ls c f xs ≡ step (reading_of ws ls c) (Some (line_in f xs))
   unfolding step or_else
   step_late e = rw (refusal_is, ← e) (sym late_is)
 
@@ -320,7 +304,7 @@ module _ (ws u t : List ℕ) (c : Counts) (h : Held ws c) (k : Kept c.used u t) 
   kept_row base n s i l = run_kept u t c.used (word_at ws (row_of base i) 1) (word_at ws (row_of base i) 2) k (s.ends i l)
 
   -- the types' keys too
-  pub keyed_kept : Keyed ws u c.types → Keyed ws t c.types
+  keyed_kept : Keyed ws u c.types → Keyed ws t c.types
   keyed_kept = keyed_lists ws u t c.types (kept_row 0 c.types h.types)
 
   kept_section : {A : Type 0} (f : List ℕ → Row → A) → ((r : Row) → numbers t r ≡ numbers u r → f t r ≡ f u r) → (base n : ℕ) → Inside ws c.used base n
@@ -328,7 +312,7 @@ module _ (ws u t : List ℕ) (c : Counts) (h : Held ws c) (k : Kept c.used u t) 
   unfolding section
   kept_section f g base n s = tab_same (λ i. f t (row_at ws (row_of base i))) (λ i. f u (row_at ws (row_of base i))) 0 n (λ i l b. g (row_at ws (row_of base i)) (kept_row base n s i (omega arith)))
 
-  pub reading_kept : reading_of ws t c ≡ reading_of ws u c
+  reading_kept : reading_of ws t c ≡ reading_of ws u c
   unfolding reading_of tables_by_counts
   reading_kept =
       rw (
@@ -342,43 +326,47 @@ module _ (ws u t : List ℕ) (c : Counts) (h : Held ws c) (k : Kept c.used u t) 
 
 -- ---------------------------------------------------------------- a line
 
-pub form_half : (o : Option Line) (s u t : List ℕ) (used : ℕ) (r : Formed) (f : Form) → FormAt o s u t used r → r ≡ Lined f → f.count * 2 ≤ length s
-form_half o s u t used r f a e = (rw e at a).half
-
-pub few_passed : (f : Form) (ls : List ℕ) (c : Counts) → none ≡ first_failed (early_tests f ls c) → few_by_counts f.kind c ≡ true
+pub few_passed : (f : Form) (xs : List ℕ) (c : Counts) → None ≡ first_failed (early_tests f xs c) → few_by_counts f.kind c ≡ true
 unfolding first_failed
-few_passed f ls c e = by (in_order c.stage (rank (head_of f.kind 0))) (few_by_counts f.kind c)
-    (test 3 (all in_range (args_of f ls c.used) && fields_fit (head_of f.kind f.word) (run ls c.used f.count)) ∷ test 4 (all (earlier_arg c) (args_of f ls c.used)) ∷ []) e
+few_passed f xs c e = by (in_order c.stage (rank (head_of f.kind 0))) (few_by_counts f.kind c)
+    (test 3 (all in_range (args_in f.kind f.word xs) && fields_fit (head_of f.kind f.word) xs) ∷ test 4 (all (earlier_arg c) (args_in f.kind f.word xs)) ∷ []) e
   where
-    by : (a b : Bool) (ts : List Test) → none ≡ first_failed (test 2 a ∷ test 8 b ∷ ts) → b ≡ true
+    by : (a b : Bool) (ts : List Test) → None ≡ first_failed (test 2 a ∷ test 8 b ∷ ts) → b ≡ true
     by true true ts q = refl
     by true false ts q = cc
     by false b ts q = cc
 
+-- what judging asks, once a line's numbers are read
+pub open_kept : (ws u t : List ℕ) (c : Counts) → Kept c.used u t → Open ws u c → Open ws t c
+open_kept ws u t c k o = record { held = o.held; roomy = o.roomy; keyed = keyed_kept ws u t c o.held k o.keyed; lines = o.lines }
+
 module _ (s ws u : List ℕ) (c : Counts) where
-  pub step_unformed : (t : List ℕ) (r : Formed) → FormAt (line_of s) s u t c.used r → r ≡ Unformed → StepAt (step (reading_of ws u c) (line_of s)) s ws t c (Turned 2)
+  pub step_unformed : (t : List ℕ) → FormAt (line_of s) s u t c.used None → StepAt (step (reading_of ws u c) (line_of s)) s ws t c (Err Refusal.BadForm)
   unfolding step
-  step_unformed t r a e = record { answer = rw (← a.answer, e); goes = tt }
+  step_unformed t a = record { answer = rw (← a.answer); goes = tt }
 
-  module _ (h : Held ws c) (t : List ℕ) (r : Formed) (f : Form) (a : FormAt (line_of s) s u t c.used r) (e : r ≡ Lined f) (v : Verdict)
-      (p : verdict_of v ≡ first_failed (early_tests f t c)) where
-    line_is : line_of s ≡ some (line_from f t c.used)
-    line_is = sym a.answer ∙ rw e
+  module _ (h : Held ws c) (t : List ℕ) (f : Form) (a : FormAt (line_of s) s u t c.used (Some f)) where
+    line_is : line_of s ≡ Some (line_in f (numbers_of t c f))
+    line_is = sym a.answer ∙ ap Some (line_lent f t c.used)
 
-    pub step_refused : (m : ℕ) → v ≡ Refused m → StepAt (step (reading_of ws u c) (line_of s)) s ws t c (Turned m)
-    step_refused m q =
+    pub step_refused : (x : Refusal) → Some (refusal_number x) ≡ first_failed (early_tests f (numbers_of t c f) c) → StepAt (step (reading_of ws u c) (line_of s)) s ws t c (Err x)
+    step_refused x p =
         record {
-          answer = step_early ws t c f.kind f.word f.count m (ap verdict_of (sym q) ∙ p) ∙ rw (reading_kept ws u t c h a.kept, line_is);
+          answer = step_early ws t c f (numbers_of t c f) _ p ∙ rw (reading_kept ws u t c h a.kept, line_is);
           goes = tt;
         }
 
-    pub step_passed : v ≡ Passed → (x : List ℕ) (k : Stepped) → Judged (late_step ws t c f) x t c f k → StepAt (step (reading_of ws u c) (line_of s)) s x t c k
-    step_passed q x k j =
+    pub step_passed : None ≡ first_failed (early_tests f (numbers_of t c f) c) → (x : List ℕ) (k : Result Counts Refusal) → Judged (late_step ws t c f (numbers_of t c f)) x t c f.count k
+        → StepAt (step (reading_of ws u c) (line_of s)) s x t c k
+    step_passed p x k j =
         record {
-          answer = j.answer ∙ step_late ws t c f.kind f.word f.count (ap verdict_of (sym q) ∙ p) ∙ rw (reading_kept ws u t c h a.kept, line_is);
+          answer = j.answer ∙ step_late ws t c f (numbers_of t c f) p ∙ rw (reading_kept ws u t c h a.kept, line_is);
           goes = goes_on k j.goes;
         }
       where
-        goes_on : (k : Stepped) → Goes x t c f.count k → LineGoes s x t c k
-        goes_on (Went d) g = (g.0, g.1, omega (arith, g.2, form_half (line_of s) s u t c.used r f a e), g.3)
-        goes_on (Turned m) g = tt
+        goes_on : (k : Result Counts Refusal) → IfOk k (λ d. Held x d × Keyed x t d.types × (d.used ≡ c.used + f.count) × (d.lines ≡ c.lines + 1))
+            → IfOk k (λ d. Held x d × Keyed x t d.types × (d.used * 2 ≤ c.used * 2 + length s) × (d.lines ≡ c.lines + 1))
+        goes_on (Ok d) g = (g.0, g.1, omega (arith, g.2, a.half), g.3)
+        goes_on (Err y) g = tt
+
+pub ruleset stepping = (few_passed, open_kept, step_unformed, step_refused, step_passed)

@@ -1,33 +1,20 @@
 -- The tables that reading makes are those that the look-ups see.
-use mathlib.Core.Path.{◌≡◌, sym, ap, ◌∙◌}
+use mathlib.Core.Path.{◌≡◌}
 use mathlib.Core.List.{List}
-use Prim.Native.Nat.{ℕ, ◌+◌, ◌*◌, ◌<◌}
+use Prim.Native.Nat.{ℕ, ◌<◌}
 use native.Mathlib.Omega.{arith}
-use lib.ListN.{drop}
-use lib.Seq.{get_or-drop}
 use Rattle.tables.specs.declared.Counts.{Counts}
 use Rattle.tables.specs.Tables.{tab, row_of, numbers_at, type_line, storage_line, placed_line, placed_of, placed_list, place_line, node_line, tables_of, storages_from, places_from}
 use Rattle.fields.proofs.Tabs.{tab_same}
 use Rattle.line_checks.proofs.RowLaws.{cell_here}
-use Rattle.line_checks.specs.Rows.{word_at, Row, row_at, section, numbers, type_row, storage_row, placed_row, place_row, node_row, nodes_from, tables_by_counts}
+use Rattle.line_checks.specs.Rows.{row_at, section, numbers, type_row, storage_row, placed_row, place_row, node_row, nodes_from, tables_by_counts}
+use Rattle.line_checks.specs.declared.rows.Row.{Row}
 
 -- ---------------------------------------------------------------- a row of n
 
 numbers_here : (ws ls : List ℕ) (base n k : ℕ) → k < n → numbers ls (row_at ws (row_of base k)) ≡ numbers_at ws ls base n k
 unfolding numbers row_at numbers_at
 numbers_here ws ls base n k h = rw (cell_here ws base n k 1 0 h, cell_here ws base n k 2 0 h)
-
--- the rows from the nodes' on
-module _ (ws : List ℕ) (k : ℕ) where
-  word_behind : (j : ℕ) → word_at ws (row_of nodes_from k) j ≡ word_at (drop 30 ws) (row_of 0 k) j
-  unfolding word_at
-  word_behind j =
-      let e : 30 + (row_of 0 k * 6 + j) ≡ row_of nodes_from k * 6 + j = omega arith in
-      sym (get_or-drop 30 ws (row_of 0 k * 6 + j) 0 ∙ rw e)
-
-  row_behind : row_at ws (row_of nodes_from k) ≡ row_at (drop 30 ws) (row_of 0 k)
-  unfolding row_at
-  row_behind = rw (word_behind 0, word_behind 1, word_behind 2, word_behind 3, word_behind 4, word_behind 5)
 
 -- ---------------------------------------------------------------- lines
 
@@ -59,15 +46,15 @@ module _ (ws ls : List ℕ) (c : Counts) (k : ℕ) where
         cell_here ws places_from c.places k 4 0 h,
       )
 
-  node_here : k < c.nodes → node_row ls (row_at ws (row_of 0 k)) ≡ node_line ws ls c k
+  node_here : k < c.nodes → node_row ls (row_at ws (row_of nodes_from k)) ≡ node_line ws ls c k
   unfolding row_at numbers numbers_at node_line
   node_here h =
       rw (
-        cell_here ws 0 c.nodes k 0 4 h,
-        cell_here ws 0 c.nodes k 1 0 h,
-        cell_here ws 0 c.nodes k 2 0 h,
-        cell_here ws 0 c.nodes k 3 0 h,
-        cell_here ws 0 c.nodes k 4 0 h,
+        cell_here ws nodes_from c.nodes k 0 4 h,
+        cell_here ws nodes_from c.nodes k 1 0 h,
+        cell_here ws nodes_from c.nodes k 2 0 h,
+        cell_here ws nodes_from c.nodes k 3 0 h,
+        cell_here ws nodes_from c.nodes k 4 0 h,
       )
 
 -- ---------------------------------------------------------------- tables
@@ -82,7 +69,7 @@ unfolding placed_list
 placed_are ws ls base n =
     section_is (placed_row ls) (λ k. placed_line (placed_of (numbers_at ws ls base n k))) ws base n (λ k h. rw (numbers_here ws ls base n k h))
 
-pub tables_are : (ws ls : List ℕ) (c : Counts) → tables_by_counts ws ls c ≡ tables_of ws (drop 30 ws) ls c
+pub tables_are : (ws ls : List ℕ) (c : Counts) → tables_by_counts ws ls c ≡ tables_of ws ls c
 unfolding tables_by_counts tables_of
 tables_are ws ls c =
     rw (
@@ -91,6 +78,5 @@ tables_are ws ls c =
       placed_are ws ls _ c.variables,
       placed_are ws ls _ c.statics,
       section_is (place_row ls) (place_line ws ls c) ws places_from c.places (place_here ws ls c),
-      section_is (node_row ls) (node_line (drop 30 ws) ls c) ws nodes_from c.nodes
-          (λ k h. ap (node_row ls) (row_behind ws k) ∙ node_here (drop 30 ws) ls c k h),
+      section_is (node_row ls) (node_line ws ls c) ws nodes_from c.nodes (node_here ws ls c),
     )

@@ -1,26 +1,20 @@
 -- The code's answers at the text's end and from line to line, as those of `Read`.
 use Rattle.std.specs.Prelude.{ℕ, zero, suc, ◌+◌, ◌*◌, ◌≤◌, ◌<◌, min, ◌≡◌, List, eqb, length, drop}
-use Rattle.std.proofs.Math.Option.{Option, none, some}
+use Rattle.std.specs.Prelude.{Option, None, Some, Result, Ok, Err, IfOk}
 use Rattle.spec.specs.Text.{split, line_feed}
 use Rattle.tables.specs.Tables.{pick, row_of, places_from, tables_of}
 use Rattle.spec.specs.Read.{Read, refused, accepted, read_lines, start}
-use Rattle.line_checks.specs.Rows.{word_at, reading_of, Held, nodes_from, rows_length, Roomy}
+use Rattle.answers.specs.Refusals.{refusal_number}
+use Rattle.answers.specs.declared.Refusal.{Refusal}
+use Rattle.line_checks.specs.Rows.{word_at, reading_of, Held, nodes_from, rows_length}
 use Rattle.line_checks.specs.Keys.{Keyed}
 use Rattle.tables.specs.declared.Counts.{Counts}
-use Rattle.ticket.specs.declared.Least.{Least}
-use Rattle.ticket.specs.declared.Least.TheVariants.{Line, Nothing}
-use Rattle.ticket.specs.declared.Advanced.{Advanced}
-use Rattle.ticket.specs.declared.Advanced.TheVariants.{Behind, Stopped}
-use Rattle.ticket.specs.declared.ReadAnswer.{ReadAnswer}
-use Rattle.ticket.specs.declared.ReadAnswer.TheVariants.{Refused, Accepted, NoRoom}
-
-abbrev pub least_of : Least → Option ℕ
-least_of (Line x) = some x
-least_of Nothing = none
+use Rattle.ticket.specs.Judged.{Open}
+use Rattle.ticket.specs.declared.ReadError.{ReadError}
 
 abbrev pub joined : ℕ → Option ℕ → Option ℕ
-joined x none = some x
-joined x (some y) = some (min x y)
+joined x None = Some x
+joined x (Some y) = Some (min x y)
 
 -- with the line of row q, where nothing refers to it
 unfoldable pub with_left : List ℕ → ℕ → Option ℕ → Option ℕ
@@ -37,29 +31,26 @@ but_last (suc n) = n
 
 -- the root is referred to by nothing
 abbrev pub left_of : List ℕ → Counts → Option ℕ
-left_of ws c = least_rows ws places_from 0 c.places (least_rows ws nodes_from 0 (but_last c.nodes) none)
+left_of ws c = least_rows ws places_from 0 c.places (least_rows ws nodes_from 0 (but_last c.nodes) None)
 
-unfoldable pub advance_of : List ℕ → List ℕ → List ℕ → ℕ → Advanced → Read
-advance_of s ws ls line (Behind c p) = read_lines (split line_feed (drop p s)) (reading_of ws ls c)
-advance_of s ws ls line (Stopped n) = refused n line
+-- behind a line that ends at p
+unfoldable pub advance_of : List ℕ → List ℕ → List ℕ → ℕ → ℕ → Result Counts Refusal → Read
+advance_of s ws ls line p (Ok c) = read_lines (split line_feed (drop p s)) (reading_of ws ls c)
+advance_of s ws ls line p (Err e) = refused (refusal_number e) line
 
-abbrev pub Ahead : List ℕ → List ℕ → List ℕ → Counts → ℕ → Advanced → Type 0
-Ahead s t ls c at (Behind r p) = Held t r × Keyed t ls r.types × (r.used * 2 ≤ p) × (r.lines ≡ c.lines + 1) × (at < p) × (p ≤ length s)
-Ahead s t ls c at (Stopped n) = Unit {0}
+-- what holds behind that line; where reading stopped, it is where it was
+abbrev pub Ahead : List ℕ → List ℕ → List ℕ → Counts → ℕ → ℕ → Result Counts Refusal → Type 0
+Ahead s t ls c at p (Ok r) = Held t r × Keyed t ls r.types × (r.used * 2 ≤ p) × (r.lines ≡ c.lines + 1) × (at < p) × (p ≤ length s)
+Ahead s t ls c at p (Err e) = p ≡ at
 
--- one line on
-pub record Advance (s u v t ls : List ℕ) (c : Counts) (at : ℕ) (r : Advanced) : Type 0 where
-  pub answer : advance_of s t ls (c.lines + 1) r ≡ read_lines (split line_feed (drop at s)) (reading_of u v c)
-  pub ahead : Ahead s t ls c at r
-
--- the position behind a line, or that before it where reading stopped
-abbrev pub behind_of : Advanced → ℕ → ℕ
-behind_of (Behind c p) at = p
-behind_of (Stopped n) at = at
+-- one line on, from at to p
+pub record Advance (s u v t ls : List ℕ) (c : Counts) (at p : ℕ) (r : Result Counts Refusal) : Type 0 where
+  pub answer : advance_of s t ls (c.lines + 1) p r ≡ read_lines (split line_feed (drop at s)) (reading_of u v c)
+  pub ahead : Ahead s t ls c at p r
 
 -- what reading a line at a position asks
 abbrev pub Ready : List ℕ → List ℕ → List ℕ → Counts → ℕ → Type 0
-Ready s ws ls c at = Held ws c × Roomy (length ws) c × Keyed ws ls c.types × (length s ≤ length ls * 2) × (c.used * 2 ≤ at) × (c.lines ≤ at) × (at < length s) × (length s ≤ 65536)
+Ready s ws ls c at = Open ws ls c × (length s ≤ length ls * 2) × (c.used * 2 ≤ at) × (at < length s)
 
 -- no line read: the state at the start, whatever the words are
 pub record Begun (c : Counts) : Type 0 where
@@ -70,17 +61,12 @@ pub record Begun (c : Counts) : Type 0 where
   pub lines : c.lines ≡ 0
 
 -- the answer is o, or the words t are too few; the nodes' rows begin at word 30
-abbrev pub AnswerIs : Read → List ℕ → List ℕ → ReadAnswer → Type 0
-AnswerIs o t ls (Refused n l) = refused n l ≡ o
-AnswerIs o t ls (Accepted c) = accepted (tables_of t (drop 30 t) ls c) ≡ o
-AnswerIs o t ls NoRoom = length t < rows_length
+abbrev pub AnswerIs : Read → List ℕ → List ℕ → Result Counts ReadError → Type 0
+AnswerIs o t ls (Ok c) = accepted (tables_of t ls c) ≡ o
+AnswerIs o t ls (Err (ReadError.Refused e)) = refused (refusal_number e.refusal) e.line ≡ o
+AnswerIs o t ls (Err ReadError.NoRoom) = length t < rows_length
 
--- the tables that are answered can be looked into
-abbrev pub HeldBy : List ℕ → List ℕ → ReadAnswer → Type 0
-HeldBy t ls (Refused n l) = Unit {0}
-HeldBy t ls (Accepted c) = Held t c × (c.used ≤ length ls)
-HeldBy t ls NoRoom = Unit {0}
-
-pub record Answered (o : Read) (t ls : List ℕ) (r : ReadAnswer) : Type 0 where
+-- and the tables that are answered can be looked into
+pub record Answered (o : Read) (t ls : List ℕ) (r : Result Counts ReadError) : Type 0 where
   pub answer : AnswerIs o t ls r
-  pub held : HeldBy t ls r
+  pub held : IfOk r (λ c. Held t c × (c.used ≤ length ls))

@@ -1,265 +1,117 @@
 // A line added to the tables.
-ghost use Rattle.std.specs.Prelude.{◌≡◌, true, ◌+◌, ◌*◌, ◌≤◌, ◌<◌, length};
-ghost use Rattle.line_checks.specs.Rows.{Held, Roomy};
+ghost use Rattle.std.specs.Prelude.{◌≡◌, true, ◌+◌, ◌≤◌, ◌<◌, length};
+ghost use Rattle.line_checks.specs.Rows.{Few, Held, Roomy};
 ghost use Rattle.line_checks.specs.Steps.{few_by_counts};
-ghost use Rattle.ticket.specs.Grown.{Added};
+ghost use Rattle.ticket.specs.Grown.{row_of_line, line_row, counted, LinePut, Added};
 
-use crate::Extent;
+use crate::{Extent, numbers_of};
+use line_checks::checks::rank;
 use line_checks::keys::note;
-use line_checks::measures::type_number;
-use line_checks::rows::put_row;
+use line_checks::rows::{Row, put_row};
+use line_checks::words::TypeWord;
 use line_forms::{Form, LineKind};
-use tables::{Counts, arg};
+use tables::{Counts, word as number};
 
-fn add_function(lists: &[u64], counts: Counts, n: usize, e: Extent, rows: &[u64]) -> Counts
-    requires { Held rows.now counts × (counts.used + n ≤ length lists.now) × (counts.lines < 65536) }
-    ensures { Added rows.now rows.now lists.now counts LineKind.Functions 0 n e result }
+// The row that a line takes; a function line takes none.
+fn next_row(kind: LineKind, counts: Counts) -> Option<u64>
+    requires { Few counts }
+    ensures { result ≡ row_of_line kind counts }
 {
-    let used = counts.used;
-    let start = used as u64;
-    let count = n as u64;
-    Counts {
-        function: arg(lists, start, count, 0),
-        next: arg(lists, start, count, 1),
-        types: counts.types,
-        storages: counts.storages,
-        variables: counts.variables,
-        statics: counts.statics,
-        places: counts.places,
-        nodes: counts.nodes,
-        used: used + n,
-        stage: 1,
-        lines: counts.lines + 1,
-        sizes: e.sizes,
-        weights: e.weights,
+    match kind {
+        LineKind::Functions => None,
+        LineKind::Types => Some(counts.types * 6),
+        LineKind::Storages => Some(1 + counts.storages * 6),
+        LineKind::Variables => Some(2 + counts.variables * 6),
+        LineKind::Statics => Some(3 + counts.statics * 6),
+        LineKind::Places => Some(4 + counts.places * 6),
+        LineKind::Nodes => Some(5 + counts.nodes * 6),
     }
 }
 
-fn add_type(
-    rows: &mut [u64],
-    lists: &[u64],
-    counts: Counts,
-    word: u64,
-    n: usize,
-    e: Extent,
-) -> Counts
-    requires { Held rows.old counts × Roomy (length rows.old) counts × (counts.used + n ≤ length lists.now) × (few_by_counts LineKind.Types counts ≡ true) × (counts.lines < 65536) }
-    ensures { Added rows.old rows.new lists.now counts LineKind.Types word n e result }
+fn line_row(form: Form, counts: Counts, e: Extent) -> Row
+    requires { counts.lines < 65536 }
+    ensures { result ≡ line_row form counts e }
 {
-    note(rows, lists, type_number(word), counts.used, n);
-    put_row(
-        rows,
-        counts.types * 6,
-        word,
-        counts.used,
-        n,
-        e.size,
-        e.weight,
-        e.depth,
-    );
-    Counts {
-        function: counts.function,
-        next: counts.next,
-        types: counts.types + 1,
-        storages: counts.storages,
-        variables: counts.variables,
-        statics: counts.statics,
-        places: counts.places,
-        nodes: counts.nodes,
-        used: counts.used + n,
-        stage: 2,
-        lines: counts.lines + 1,
-        sizes: e.sizes,
-        weights: e.weights,
+    let (third, fourth, fifth) = match form.kind {
+        LineKind::Types => (e.own.size, e.own.weight, e.depth),
+        LineKind::Places | LineKind::Nodes => (counts.lines + 1, e.depth, 0),
+        _ => (0, 0, 0),
+    };
+    Row {
+        word: form.word,
+        start: counts.used,
+        count: form.count,
+        third,
+        fourth,
+        fifth,
     }
 }
 
-fn add_storage(
-    rows: &mut [u64],
-    lists: &[u64],
-    counts: Counts,
-    word: u64,
-    n: usize,
-    e: Extent,
-) -> Counts
-    requires { Held rows.old counts × Roomy (length rows.old) counts × (counts.used + n ≤ length lists.now) × (few_by_counts LineKind.Storages counts ≡ true) × (counts.lines < 65536) }
-    ensures { Added rows.old rows.new lists.now counts LineKind.Storages word n e result }
+// A type's key is noted, and a line's row stored.
+fn put_line(form: Form, rows: &mut [u64], numbers: &[u64], counts: Counts, e: Extent)
+    requires { Few counts × Roomy (length rows.old) counts × (counts.lines < 65536) }
+    ensures { LinePut rows.old rows.new form numbers.now counts e }
 {
-    put_row(rows, 1 + counts.storages * 6, word, counts.used, n, 0, 0, 0);
-    Counts {
-        function: counts.function,
-        next: counts.next,
-        types: counts.types,
-        storages: counts.storages + 1,
-        variables: counts.variables,
-        statics: counts.statics,
-        places: counts.places,
-        nodes: counts.nodes,
-        used: counts.used + n,
-        stage: 3,
-        lines: counts.lines + 1,
-        sizes: e.sizes,
-        weights: e.weights,
+    let Some(r) = next_row(form.kind, counts) else {
+        return;
+    };
+    if let LineKind::Types = form.kind {
+        note(rows, TypeWord::from(form.word), numbers);
+    }
+    put_row(rows, r, line_row(form, counts, e));
+}
+
+// One line more of its kind.
+fn counted(kind: LineKind, counts: Counts, numbers: &[u64]) -> Counts
+    requires { Few counts }
+    ensures { result ≡ counted kind counts numbers.now }
+{
+    match kind {
+        LineKind::Functions => Counts {
+            function: number(numbers, 0),
+            next: number(numbers, 1),
+            ..counts
+        },
+        LineKind::Types => Counts {
+            types: counts.types + 1,
+            ..counts
+        },
+        LineKind::Storages => Counts {
+            storages: counts.storages + 1,
+            ..counts
+        },
+        LineKind::Variables => Counts {
+            variables: counts.variables + 1,
+            ..counts
+        },
+        LineKind::Statics => Counts {
+            statics: counts.statics + 1,
+            ..counts
+        },
+        LineKind::Places => Counts {
+            places: counts.places + 1,
+            ..counts
+        },
+        LineKind::Nodes => Counts {
+            nodes: counts.nodes + 1,
+            ..counts
+        },
     }
 }
 
-fn add_variable(
-    rows: &mut [u64],
-    lists: &[u64],
-    counts: Counts,
-    word: u64,
-    n: usize,
-    e: Extent,
-) -> Counts
-    requires { Held rows.old counts × Roomy (length rows.old) counts × (counts.used + n ≤ length lists.now) × (few_by_counts LineKind.Variables counts ≡ true) × (counts.lines < 65536) }
-    ensures { Added rows.old rows.new lists.now counts LineKind.Variables word n e result }
-{
-    put_row(
-        rows,
-        2 + counts.variables * 6,
-        word,
-        counts.used,
-        n,
-        0,
-        0,
-        0,
-    );
-    Counts {
-        function: counts.function,
-        next: counts.next,
-        types: counts.types,
-        storages: counts.storages,
-        variables: counts.variables + 1,
-        statics: counts.statics,
-        places: counts.places,
-        nodes: counts.nodes,
-        used: counts.used + n,
-        stage: 4,
-        lines: counts.lines + 1,
-        sizes: e.sizes,
-        weights: e.weights,
-    }
-}
-
-fn add_static(
-    rows: &mut [u64],
-    lists: &[u64],
-    counts: Counts,
-    word: u64,
-    n: usize,
-    e: Extent,
-) -> Counts
-    requires { Held rows.old counts × Roomy (length rows.old) counts × (counts.used + n ≤ length lists.now) × (few_by_counts LineKind.Statics counts ≡ true) × (counts.lines < 65536) }
-    ensures { Added rows.old rows.new lists.now counts LineKind.Statics word n e result }
-{
-    put_row(rows, 3 + counts.statics * 6, word, counts.used, n, 0, 0, 0);
-    Counts {
-        function: counts.function,
-        next: counts.next,
-        types: counts.types,
-        storages: counts.storages,
-        variables: counts.variables,
-        statics: counts.statics + 1,
-        places: counts.places,
-        nodes: counts.nodes,
-        used: counts.used + n,
-        stage: 5,
-        lines: counts.lines + 1,
-        sizes: e.sizes,
-        weights: e.weights,
-    }
-}
-
-fn add_place(
-    rows: &mut [u64],
-    lists: &[u64],
-    counts: Counts,
-    word: u64,
-    n: usize,
-    e: Extent,
-) -> Counts
-    requires { Held rows.old counts × Roomy (length rows.old) counts × (counts.used + n ≤ length lists.now) × (few_by_counts LineKind.Places counts ≡ true) × (counts.lines < 65536) }
-    ensures { Added rows.old rows.new lists.now counts LineKind.Places word n e result }
-{
-    put_row(
-        rows,
-        4 + counts.places * 6,
-        word,
-        counts.used,
-        n,
-        counts.lines + 1,
-        e.depth,
-        0,
-    );
-    Counts {
-        function: counts.function,
-        next: counts.next,
-        types: counts.types,
-        storages: counts.storages,
-        variables: counts.variables,
-        statics: counts.statics,
-        places: counts.places + 1,
-        nodes: counts.nodes,
-        used: counts.used + n,
-        stage: 6,
-        lines: counts.lines + 1,
-        sizes: e.sizes,
-        weights: e.weights,
-    }
-}
-
-fn add_node(
-    rows: &mut [u64],
-    lists: &[u64],
-    counts: Counts,
-    word: u64,
-    n: usize,
-    e: Extent,
-) -> Counts
-    requires { Held rows.old counts × Roomy (length rows.old) counts × (counts.used + n ≤ length lists.now) × (few_by_counts LineKind.Nodes counts ≡ true) × (counts.lines < 65536) }
-    ensures { Added rows.old rows.new lists.now counts LineKind.Nodes word n e result }
-{
-    put_row(
-        rows,
-        5 + counts.nodes * 6,
-        word,
-        counts.used,
-        n,
-        counts.lines + 1,
-        e.depth,
-        0,
-    );
-    Counts {
-        function: counts.function,
-        next: counts.next,
-        types: counts.types,
-        storages: counts.storages,
-        variables: counts.variables,
-        statics: counts.statics,
-        places: counts.places,
-        nodes: counts.nodes + 1,
-        used: counts.used + n,
-        stage: 6,
-        lines: counts.lines + 1,
-        sizes: e.sizes,
-        weights: e.weights,
-    }
-}
-
+// A line's row stored, and the counts with it.
 pub fn add(form: Form, rows: &mut [u64], lists: &[u64], counts: Counts, e: Extent) -> Counts
     requires { Held rows.old counts × Roomy (length rows.old) counts × (counts.used + form.count ≤ length lists.now) × (few_by_counts form.kind counts ≡ true) × (counts.lines < 65536) }
-    ensures { Added rows.old rows.new lists.now counts form.kind form.word form.count e result }
+    ensures { Added rows.old rows.new lists.now form counts e result }
 {
-    let kind = form.kind;
-    let word = form.word;
-    let n = form.count;
-    match kind {
-        LineKind::Functions => add_function(lists, counts, n, e, rows),
-        LineKind::Types => add_type(rows, lists, counts, word, n, e),
-        LineKind::Storages => add_storage(rows, lists, counts, word, n, e),
-        LineKind::Variables => add_variable(rows, lists, counts, word, n, e),
-        LineKind::Statics => add_static(rows, lists, counts, word, n, e),
-        LineKind::Places => add_place(rows, lists, counts, word, n, e),
-        LineKind::Nodes => add_node(rows, lists, counts, word, n, e),
+    let numbers = numbers_of(form, lists, counts);
+    put_line(form, rows, numbers, counts, e);
+    Counts {
+        used: counts.used + form.count,
+        stage: rank(form.kind) + 1,
+        lines: counts.lines + 1,
+        sizes: e.sums.size,
+        weights: e.sums.weight,
+        ..counted(form.kind, counts, numbers)
     }
 }

@@ -1,59 +1,47 @@
 // The ticket: its lines as tables, the expression that they stand for, and its reading.
 #![tactic(auto)]
 
+ghost use Rattle.std.specs.Prelude.{◌≡◌, ◌+◌, ◌≤◌, length};
+ghost use Rattle.tables.specs.Tables.{run};
+ghost use Rattle.ticket.specs.declared.ReadError.{ReadError};
+
+use answers::{Refusal, Refused};
+use line_checks::Measure;
+use line_forms::Form;
 use tables::Counts;
 
 mod adding;
 pub mod reading;
 mod steps;
 
-// What is known of a line besides its form: a type's size and weight, its depth, and the sums over nodes with it.
+// What is known of a line besides its form: what it measures if it is a type, its depth, and the sums over nodes with it.
 #[derive(Clone, Copy)]
-pub struct Extent {
-    pub size: u64,
-    pub weight: u64,
-    pub depth: u64,
-    pub sizes: u64,
-    pub weights: u64,
+struct Extent {
+    own: Measure,
+    depth: u64,
+    sums: Measure,
 }
 
-#[derive(Drop)]
-pub enum Stepped {
-    Went(Counts),
-    Turned(u64),
+// A line's numbers, behind those in use.
+#[tactic(auto, using(line_checks::proofs::MeasureLaws::slice_run))]
+fn numbers_of(form: Form, lists: &[u64], counts: Counts) -> &[u64]
+    requires { counts.used + form.count ≤ length lists.now }
+    ensures { result.now ≡ run lists.now counts.used form.count }
+{
+    &lists[counts.used..counts.used + form.count]
 }
 
-// The sums over nodes.
-#[derive(Drop)]
-pub enum Summed {
-    Sums(u64, u64),
-    Beyond,
-}
-
-// The least of some lines.
-#[derive(Drop)]
-pub enum Least {
-    Line(u64),
-    Nothing,
-}
-
-#[derive(Clone, Copy)]
-pub enum Advanced {
-    Behind(Counts, usize),
-    Stopped(u64),
-}
-
-// The text, and where its next line begins.
-#[derive(Drop)]
-pub struct Reader<'a> {
-    pub text: &'a [u8],
-    pub at: usize,
-}
-
-// The refusal's number and line, or the tables' counts. NoRoom: the rows lent are too few for the ticket's lines.
-#[derive(Drop)]
-pub enum ReadAnswer {
-    Refused(u64, u64),
-    Accepted(Counts),
+/// Why a ticket is not read: it is refused, or the rows lent are too few for its lines.
+#[derive(Clone, Copy, Debug, PartialEq, Eq)]
+pub enum ReadError {
+    Refused(Refused<Refusal>),
     NoRoom,
+}
+
+impl From<Refused<Refusal>> for ReadError {
+    ghost from_gives = { λ refused e. e ≡ ReadError.Refused refused };
+
+    fn from(refused: Refused<Refusal>) -> Self {
+        ReadError::Refused(refused)
+    }
 }

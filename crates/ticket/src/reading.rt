@@ -4,133 +4,102 @@ ghost use Rattle.tables.specs.Tables.{row_of};
 ghost use Rattle.spec.specs.Text.{split, line_feed};
 ghost use Rattle.spec.specs.Read.{at_end, read_lines as lines_read, read_ticket as ticket_read, start};
 ghost use Rattle.line_checks.specs.Rows.{Few, Held, RoomIs, reading_of};
-ghost use Rattle.ticket.specs.Answers.{least_of, joined, with_left, least_rows, but_last, left_of, Answered, Advance, Ready, behind_of, Begun};
+ghost use Rattle.ticket.specs.Answers.{with_left, least_rows, left_of, Answered, Advance, Ready, Begun};
 
+use crate::ReadError;
 use crate::steps::step;
-use crate::{Advanced, Least, ReadAnswer, Reader, Stepped};
+use answers::{Refusal, Refused};
 use line_checks::limits;
 use tables::{Counts, cell};
 
-fn lesser(x: u64, least: Least) -> Least
-    ensures { least_of result ≡ joined x (least_of least) }
-{
-    match least {
-        Least::Line(y) => if x < y {
-            Least::Line(x)
-        } else {
-            Least::Line(y)
-        },
-        Least::Nothing => Least::Line(x),
-    }
-}
-
-fn with_row(rows: &[u64], base: u64, n: u64, k: u64, least: Least) -> Least
+// The lesser of the line of row k, if nothing refers to it, and of those already seen.
+fn with_row(rows: &[u64], base: u64, n: u64, k: u64, least: Option<u64>) -> Option<u64>
     requires { (base + n ≤ 65536) × (k < n) }
-    ensures { least_of result ≡ with_left rows.now (row_of base k) (least_of least) }
+    ensures { result ≡ with_left rows.now (row_of base k) least }
 {
     if cell(rows, base, n, k, 5, 0) != 0 {
         return least;
     }
     let line = cell(rows, base, n, k, 3, 0);
-    lesser(line, least)
+    Some(least.map_or(line, |other| line.min(other)))
 }
 
 // The least line of n rows that nothing refers to, or of those already seen.
-fn least_left(rows: &[u64], base: u64, n: u64, seen: Least) -> Least
+#[tactic(auto, using(crate::proofs::ReadLaws::leaving))]
+fn least_left(rows: &[u64], base: u64, n: u64, seen: Option<u64>) -> Option<u64>
     requires { base + n ≤ 65536 }
-    ensures { least_of result ≡ least_rows rows.now base 0 n (least_of seen) }
+    ensures { result ≡ least_rows rows.now base 0 n seen }
 {
     let mut least = seen;
-    let mut k = n;
-    while 0 < k {
-        k -= 1;
+    for k in (0..n).rev() {
         least = with_row(rows, base, n, k, least);
     }
     least
 }
 
-fn but_root(n: u64) -> u64
-    ensures { (result ≡ but_last n) × (result ≤ n) }
-{
-    if n == 0 { 0 } else { n - 1 }
-}
-
-fn left_over(rows: &[u64], counts: Counts) -> Least
+// The root, which is the last node, is referred to by nothing.
+#[tactic(auto, using(crate::proofs::ReadLaws::last_less))]
+fn left_over(rows: &[u64], counts: Counts) -> Option<u64>
     requires { Few counts }
-    ensures { least_of result ≡ left_of rows.now counts }
+    ensures { result ≡ left_of rows.now counts }
 {
-    let others = but_root(counts.nodes);
-    let seen = least_left(rows, 5, others, Least::Nothing);
+    let seen = least_left(rows, 5, counts.nodes.saturating_sub(1), None);
     least_left(rows, 4, counts.places, seen)
 }
 
+fn refused(refusal: Refusal, line: u64) -> ReadError
+    ensures { result ≡ ReadError.Refused (record { refusal = refusal; line = line }) }
+{
+    ReadError::from(Refused { refusal, line })
+}
+
 // The text's end: a line left over, or no node.
-fn finish(rows: &[u64], lists: &[u64], counts: Counts) -> ReadAnswer
+#[tactic(auto, using(crate::proofs::ReadLaws::ending))]
+fn finish(rows: &[u64], lists: &[u64], counts: Counts) -> Result<Counts, ReadError>
     requires { Held rows.now counts × (counts.lines ≤ 65536) × (counts.used ≤ length lists.now) }
     ensures { Answered (at_end (reading_of rows.now lists.now counts)) rows.now lists.now result }
 {
-    match left_over(rows, counts) {
-        Least::Line(n) => ReadAnswer::Refused(7, n),
-        Least::Nothing => {
-            if counts.nodes == 0 {
-                return ReadAnswer::Refused(2, counts.lines + 1);
-            }
-            ReadAnswer::Accepted(counts)
+    if let Some(line) = left_over(rows, counts) {
+        return Err(refused(Refusal::NotOnce, line));
+    }
+    if counts.nodes == 0 {
+        return Err(refused(Refusal::BadForm, counts.lines + 1));
+    }
+    Ok(counts)
+}
+
+// The text, and where its next line begins.
+#[derive(Drop)]
+struct Reader<'a> {
+    text: &'a [u8],
+    at: usize,
+}
+
+impl Reader<'_> {
+    // The next line, judged and added: the reader moves behind it.
+    #[tactic(auto, using(crate::proofs::ReadLaws::advancing))]
+    fn next_line(
+        &mut self,
+        rows: &mut [u64],
+        lists: &mut [u64],
+        counts: Counts,
+    ) -> Result<Counts, Refusal>
+        requires { Ready self.old.text.now rows.old lists.old counts self.old.at }
+        ensures text { self.new.text ≡ self.old.text }
+        ensures line { Advance self.old.text.now rows.old lists.old rows.new lists.new counts self.old.at self.new.at result }
+    {
+        let end = fields::find(self.text, self.at, b'\n');
+        if end == self.text.len() {
+            return Err(Refusal::BadForm);
         }
+        let next = step(&self.text[self.at..end], rows, lists, counts)?;
+        self.at = end + 1;
+        Ok(next)
     }
-}
-
-// The line at a position, judged and added.
-fn advance(text: &[u8], at: usize, rows: &mut [u64], lists: &mut [u64], counts: Counts) -> Advanced
-    requires { Ready text.now rows.old lists.old counts at }
-    ensures { Advance text.now rows.old lists.old rows.new lists.new counts at result }
-{
-    let end = fields::find(text, at, 10);
-    if end == text.len() {
-        return Advanced::Stopped(2);
-    }
-    match step(&text[at..end], rows, lists, counts) {
-        Stepped::Went(next) => Advanced::Behind(next, end + 1),
-        Stepped::Turned(n) => Advanced::Stopped(n),
-    }
-}
-
-// The position behind a line, or the same where reading stopped.
-fn behind(answer: Advanced, at: usize) -> usize
-    ensures { result ≡ behind_of answer at }
-{
-    match answer {
-        Advanced::Behind(_, p) => p,
-        Advanced::Stopped(_) => at,
-    }
-}
-
-// The reader's next line: its position moves behind it.
-fn next_line(
-    reader: &mut Reader<'_>,
-    rows: &mut [u64],
-    lists: &mut [u64],
-    counts: Counts,
-) -> Advanced
-    requires { Ready reader.old.text.now rows.old lists.old counts reader.old.at }
-    ensures { Advance reader.old.text.now rows.old lists.old rows.new lists.new counts reader.old.at result × (reader.new.text ≡ reader.old.text) × (reader.new.at ≡ behind_of result reader.old.at) }
-{
-    let at = reader.at;
-    let answer = advance(reader.text, at, rows, lists, counts);
-    reader.at = behind(answer, at);
-    answer
-}
-
-// The line at a position, as a reader that stands there gives it.
-fn line_at(text: &[u8], at: usize, rows: &mut [u64], lists: &mut [u64], counts: Counts) -> Advanced
-    requires { Ready text.now rows.old lists.old counts at }
-    ensures { Advance text.now rows.old lists.old rows.new lists.new counts at result }
-{
-    let mut reader = Reader { text, at };
-    next_line(&mut reader, rows, lists, counts)
 }
 
 // No line read.
+#[tactic(auto, using(crate::proofs::ReadLaws::begun))]
 fn none_read() -> Counts
     ensures { Begun result }
 {
@@ -156,57 +125,41 @@ fn room(rows: &[u64], counts: Counts) -> bool
     ensures { RoomIs (length rows.now) counts result }
 {
     let n = rows.len() as u64 / 40;
-    if n <= counts.types {
-        return false;
-    }
-    if n <= counts.storages {
-        return false;
-    }
-    if n <= counts.variables {
-        return false;
-    }
-    if n <= counts.statics {
-        return false;
-    }
-    if n <= counts.places {
-        return false;
-    }
-    if n <= counts.nodes {
-        return false;
-    }
-    true
+    counts.types < n
+        && counts.storages < n
+        && counts.variables < n
+        && counts.statics < n
+        && counts.places < n
+        && counts.nodes < n
 }
 
-fn read_lines(text: &[u8], rows: &mut [u64], lists: &mut [u64]) -> ReadAnswer
+#[tactic(auto, using(crate::proofs::ReadLaws::lines_over))]
+fn read_lines(text: &[u8], rows: &mut [u64], lists: &mut [u64]) -> Result<Counts, ReadError>
     requires { (length text.now ≤ length lists.old * 2) × (length text.now ≤ 65536) }
     ensures { Answered (lines_read (split line_feed text.now) start) rows.new lists.new result }
 {
     let mut counts = none_read();
-    let mut at: usize = 0;
-    while at < text.len() {
+    let mut reader = Reader { text, at: 0 };
+    while reader.at < text.len() {
         if !room(rows, counts) {
-            return ReadAnswer::NoRoom;
+            return Err(ReadError::NoRoom);
         }
-        match line_at(text, at, rows, lists, counts) {
-            Advanced::Behind(next, behind) => {
-                counts = next;
-                at = behind;
-            }
-            Advanced::Stopped(n) => {
-                return ReadAnswer::Refused(n, counts.lines + 1);
-            }
-        }
+        let line = counts.lines + 1;
+        counts = reader
+            .next_line(rows, lists, counts)
+            .map_err(|refusal| refused(refusal, line))?;
     }
     finish(rows, lists, counts)
 }
 
-// Any bytes into tables, or their refusal, or too little room for the tables.
-pub fn read_ticket(text: &[u8], rows: &mut [u64], lists: &mut [u64]) -> ReadAnswer
+/// Any bytes into tables, or their refusal, or too little room for the tables.
+#[tactic(auto, using(crate::proofs::ReadLaws::ticket_long, crate::proofs::ReadLaws::ticket_lines))]
+pub fn read_ticket(text: &[u8], rows: &mut [u64], lists: &mut [u64]) -> Result<Counts, ReadError>
     requires { length text.now ≤ length lists.old * 2 }
     ensures { Answered (ticket_read text.now) rows.new lists.new result }
 {
     if limits::TEXT_LIMIT < text.len() {
-        return ReadAnswer::Refused(1, 0);
+        return Err(refused(Refusal::LongText, 0));
     }
     read_lines(text, rows, lists)
 }

@@ -1,79 +1,56 @@
 // A line judged and added: refusals 5, 6, 7, 9 and 10.
-ghost use Rattle.std.specs.Prelude.{◌≡◌, true, ◌+◌, ◌*◌, ◌≤◌, ◌<◌, length};
+ghost use Rattle.std.specs.Prelude.{◌≡◌, true, ◌+◌, ◌*◌, ◌≤◌, length};
 ghost use Rattle.spec.specs.Forms.{line_of};
-ghost use Rattle.spec.specs.Read.{step as step_from};
-ghost use Rattle.line_forms.specs.Classes.{args_of};
-ghost use Rattle.line_checks.specs.Rows.{Few, Held, Roomy, reading_of};
+ghost use Rattle.spec.specs.Read.{right_start, step as step_from};
+ghost use Rattle.line_checks.specs.Rows.{Held, Roomy, reading_of};
 ghost use Rattle.line_checks.specs.Keys.{Keyed};
-ghost use Rattle.line_checks.specs.Steps.{few_by_counts, measured_of, capped, capped_of, deepest_in};
-ghost use Rattle.ticket.specs.Judged.{types_in, start_in, sized_in, allowed_in, own_in, summed_of, sums_in, Judged, last_step, late_step, StepAt};
+ghost use Rattle.line_checks.specs.Words.{word_of};
+ghost use Rattle.line_checks.specs.Steps.{few_by_counts, capped, args_in, deepest_in};
+ghost use Rattle.ticket.specs.Judged.{Open, types_in, sized_in, allowed_in, added_in, sums_with, numbers_of as lent, Judged, last_step, late_step, StepAt};
 
 use crate::adding::add;
-use crate::{Extent, Stepped, Summed};
+use crate::{Extent, numbers_of};
+use answers::Refusal;
 use line_checks::checks::{early, mark_all};
-use line_checks::measures::{alike, measure, type_number};
-use line_checks::{Capped, Marked, Measured, Verdict, limits};
-use line_forms::{Form, Formed, LineKind, line_form};
-use tables::{Counts, arg, cell};
+use line_checks::measures::{alike, measure, within};
+use line_checks::types::{Part, Types};
+use line_checks::words::TypeWord;
+use line_checks::{Measure, limits};
+use line_forms::{Form, LineKind, line_form};
+use tables::{Counts, word as number};
 
 // 5: types 0 and 1 are bool and pointer.
-fn right_start(k: u64, word: u64) -> bool
-    ensures { result ≡ start_in k word }
+fn right_start(k: u64, word: TypeWord) -> bool
+    ensures { result ≡ right_start k (word_of word) }
 {
-    if k == 0 {
-        return type_number(word) == 1;
+    match k {
+        0 => word == TypeWord::Bool,
+        1 => word == TypeWord::Pointer,
+        _ => true,
     }
-    if k == 1 {
-        return type_number(word) == 4;
-    }
-    true
 }
 
-fn type_right(rows: &[u64], lists: &[u64], counts: Counts, word: u64, n: usize) -> bool
-    requires { (counts.used + n ≤ length lists.now) × Held rows.now counts × Roomy (length rows.now) counts × Keyed rows.now lists.now counts.types }
-    ensures { result ≡ types_in rows.now lists.now counts LineKind.Types word n }
+fn types_right(form: Form, rows: &[u64], lists: &[u64], counts: Counts, numbers: &[u64]) -> bool
+    requires { Held rows.now counts × Roomy (length rows.now) counts × Keyed rows.now lists.now counts.types × (counts.used ≤ length lists.now) }
+    ensures { result ≡ types_in rows.now lists.now counts form.kind form.word numbers.now }
 {
-    let used = counts.used;
-    if alike(rows, lists, counts, word, used, n) {
-        return false;
-    }
-    right_start(counts.types, word)
-}
-
-fn types_right(form: Form, rows: &[u64], lists: &[u64], counts: Counts) -> bool
-    requires { (counts.used + form.count ≤ length lists.now) × Held rows.now counts × Roomy (length rows.now) counts × Keyed rows.now lists.now counts.types }
-    ensures { result ≡ types_in rows.now lists.now counts form.kind form.word form.count }
-{
-    let kind = form.kind;
-    let word = form.word;
-    let n = form.count;
-    match kind {
+    match form.kind {
         LineKind::Functions => true,
-        LineKind::Types => type_right(rows, lists, counts, word, n),
-        LineKind::Storages => 2 <= counts.types,
-        LineKind::Variables => 2 <= counts.types,
-        LineKind::Statics => 2 <= counts.types,
-        LineKind::Places => 2 <= counts.types,
-        LineKind::Nodes => 2 <= counts.types,
+        LineKind::Types => {
+            let word = TypeWord::from(form.word);
+            !alike(rows, lists, counts, word, numbers) && right_start(counts.types, word)
+        }
+        _ => 2 <= counts.types,
     }
 }
 
 // 6: a type's size and weight.
-fn sized(form: Form, rows: &[u64], lists: &[u64], counts: Counts) -> Measured
-    requires { (counts.used + form.count ≤ length lists.now) × Few counts }
-    ensures { measured_of result ≡ sized_in rows.now lists.now counts form.kind form.word form.count }
+fn sized(form: Form, types: Types<'_>, numbers: &[u64]) -> Option<Measure>
+    ensures { result ≡ sized_in types.entry.rows.now types.entry.count form.kind form.word numbers.now }
 {
-    let kind = form.kind;
-    let word = form.word;
-    let n = form.count;
-    match kind {
-        LineKind::Functions => Measured::Fits(0, 0),
-        LineKind::Types => measure(rows, lists, counts.types, word, counts.used, n),
-        LineKind::Storages => Measured::Fits(0, 0),
-        LineKind::Variables => Measured::Fits(0, 0),
-        LineKind::Statics => Measured::Fits(0, 0),
-        LineKind::Places => Measured::Fits(0, 0),
-        LineKind::Nodes => Measured::Fits(0, 0),
+    match form.kind {
+        LineKind::Types => measure(types, TypeWord::from(form.word), numbers),
+        _ => Some(Measure::default()),
     }
 }
 
@@ -82,130 +59,103 @@ fn allowed(kind: LineKind) -> u64
     ensures { result ≡ allowed_in kind }
 {
     match kind {
-        LineKind::Functions => limits::DEPTH_LIMIT,
         LineKind::Types => limits::TYPE_DEPTH_LIMIT,
-        LineKind::Storages => limits::DEPTH_LIMIT,
-        LineKind::Variables => limits::DEPTH_LIMIT,
-        LineKind::Statics => limits::DEPTH_LIMIT,
-        LineKind::Places => limits::DEPTH_LIMIT,
-        LineKind::Nodes => limits::DEPTH_LIMIT,
+        _ => limits::DEPTH_LIMIT,
     }
 }
 
-// 10: what a line adds to a sum: word j of its type's row.
-fn own_node(rows: &[u64], lists: &[u64], counts: Counts, n: usize, j: u64, other: u64) -> u64
-    requires { (counts.used + n ≤ length lists.now) × Few counts × (j < 6) }
-    ensures { result ≡ own_in rows.now lists.now counts LineKind.Nodes n j other }
+// 10: what a line adds to the sums: what a node's type measures.
+fn added(kind: LineKind, types: Types<'_>, numbers: &[u64]) -> Measure
+    ensures { result ≡ added_in types.entry.rows.now types.entry.count kind numbers.now }
 {
-    let used = counts.used;
-    let t = arg(lists, used as u64, n as u64, 0);
-    cell(rows, 0, counts.types, t, j, other)
-}
-
-fn own(form: Form, rows: &[u64], lists: &[u64], counts: Counts, j: u64, other: u64) -> u64
-    requires { (counts.used + form.count ≤ length lists.now) × Few counts × (j < 6) }
-    ensures { result ≡ own_in rows.now lists.now counts form.kind form.count j other }
-{
-    let kind = form.kind;
-    let n = form.count;
     match kind {
-        LineKind::Functions => 0,
-        LineKind::Types => 0,
-        LineKind::Storages => 0,
-        LineKind::Variables => 0,
-        LineKind::Statics => 0,
-        LineKind::Places => 0,
-        LineKind::Nodes => own_node(rows, lists, counts, n, j, other),
+        LineKind::Nodes => {
+            let ty = number(numbers, 0);
+            Measure {
+                size: types.part(Part::Size, ty),
+                weight: types.part(Part::Weight, ty),
+            }
+        }
+        _ => Measure::default(),
     }
 }
 
-fn total(limit: u64, sum: u64, x: u64) -> Capped
-    ensures { capped_of result ≡ capped limit (sum + x) }
+// A sum with x, within a limit.
+#[tactic(auto, using(line_checks::proofs::MeasureLaws::capping))]
+fn total(sum: u64, x: u64, limit: u64) -> Option<u64>
+    ensures { result ≡ capped limit (sum + x) }
 {
-    if limit < sum {
-        return Capped::Over;
-    }
-    if limit - sum < x {
-        return Capped::Over;
-    }
-    Capped::Within(sum + x)
+    within(sum.checked_add(x)?, limit)
 }
 
-fn sums(form: Form, rows: &[u64], lists: &[u64], counts: Counts) -> Summed
-    requires { (counts.used + form.count ≤ length lists.now) × Few counts }
-    ensures { summed_of result ≡ sums_in rows.now lists.now counts form.kind form.count }
+#[tactic(auto, using(line_checks::proofs::MeasureLaws::measuring))]
+fn sums(counts: Counts, added: Measure) -> Option<Measure>
+    ensures { result ≡ sums_with counts added }
 {
-    let a = own(form, rows, lists, counts, 3, 0);
-    let Capped::Within(sizes) = total(limits::SIZE_SUM_LIMIT, counts.sizes, a) else {
-        return Summed::Beyond;
-    };
-    let b = own(form, rows, lists, counts, 4, 1);
-    let Capped::Within(weights) = total(limits::WEIGHT_SUM_LIMIT, counts.weights, b) else {
-        return Summed::Beyond;
-    };
-    Summed::Sums(sizes, weights)
+    let size = total(counts.sizes, added.size, limits::SIZE_SUM_LIMIT)?;
+    let weight = total(counts.weights, added.weight, limits::WEIGHT_SUM_LIMIT)?;
+    Some(Measure { size, weight })
 }
 
 // 9 and 10, and then the line is added.
+#[tactic(auto, using(crate::proofs::JudgeLaws::left, crate::proofs::JudgeLaws::lasting))]
 fn last(
     form: Form,
     rows: &mut [u64],
     lists: &[u64],
     counts: Counts,
-    size: u64,
-    weight: u64,
-    d: u64,
-) -> Stepped
-    requires { Held rows.old counts × Roomy (length rows.old) counts × Keyed rows.old lists.now counts.types × (counts.used + form.count ≤ length lists.now) × (few_by_counts form.kind counts ≡ true) × (counts.lines < 65536) × (d ≡ deepest_in rows.old counts (args_of form lists.now counts.used)) }
-    ensures { Judged (last_step rows.old lists.now counts form size weight) rows.new lists.now counts form result }
+    own: Measure,
+    depth: u64,
+) -> Result<Counts, Refusal>
+    requires { Open rows.old lists.now counts × (counts.used + form.count ≤ length lists.now) × (few_by_counts form.kind counts ≡ true) × (depth ≡ deepest_in rows.old counts (args_in form.kind form.word (lent lists.now counts form))) }
+    ensures { Judged (last_step rows.old lists.now counts form (lent lists.now counts form) own) rows.new lists.now counts form.count result }
 {
-    let kind = form.kind;
-    if allowed(kind) <= d {
-        return Stepped::Turned(9);
+    if allowed(form.kind) <= depth {
+        return Err(Refusal::TooDeep);
     }
-    let Summed::Sums(sizes, weights) = sums(form, rows, lists, counts) else {
-        return Stepped::Turned(10);
+    let numbers = numbers_of(form, lists, counts);
+    let types = Types {
+        rows,
+        count: counts.types,
     };
-    let e = Extent {
-        size,
-        weight,
-        depth: d + 1,
-        sizes,
-        weights,
-    };
-    Stepped::Went(add(form, rows, lists, counts, e))
+    let added = added(form.kind, types, numbers);
+    let sums = sums(counts, added).ok_or(Refusal::LargeSums)?;
+    let depth = depth + 1;
+    Ok(add(form, rows, lists, counts, Extent { own, depth, sums }))
 }
 
 // 5, 6 and 7, and then the rest.
-fn late(form: Form, rows: &mut [u64], lists: &[u64], counts: Counts) -> Stepped
-    requires { Held rows.old counts × Roomy (length rows.old) counts × Keyed rows.old lists.now counts.types × (counts.used + form.count ≤ length lists.now) × (few_by_counts form.kind counts ≡ true) × (counts.lines < 65536) }
-    ensures { Judged (late_step rows.old lists.now counts form) rows.new lists.now counts form result }
+#[tactic(auto, using(crate::proofs::JudgeLaws::left, crate::proofs::JudgeLaws::lately))]
+fn late(form: Form, rows: &mut [u64], lists: &[u64], counts: Counts) -> Result<Counts, Refusal>
+    requires { Open rows.old lists.now counts × (counts.used + form.count ≤ length lists.now) × (few_by_counts form.kind counts ≡ true) }
+    ensures { Judged (late_step rows.old lists.now counts form (lent lists.now counts form)) rows.new lists.now counts form.count result }
 {
-    let used = counts.used;
-    if !types_right(form, rows, lists, counts) {
-        return Stepped::Turned(5);
+    let numbers = numbers_of(form, lists, counts);
+    if !types_right(form, rows, lists, counts, numbers) {
+        return Err(Refusal::BadTypes);
     }
-    let Measured::Fits(size, weight) = sized(form, rows, lists, counts) else {
-        return Stepped::Turned(6);
+    let types = Types {
+        rows,
+        count: counts.types,
     };
-    let Marked::Deep(d) = mark_all(form, rows, lists, used, counts) else {
-        return Stepped::Turned(7);
-    };
-    last(form, rows, lists, counts, size, weight, d)
+    let own = sized(form, types, numbers).ok_or(Refusal::LargeType)?;
+    let depth = mark_all(form, rows, numbers, counts).ok_or(Refusal::NotOnce)?;
+    last(form, rows, lists, counts, own, depth)
 }
 
 // A line without its line feed.
-pub fn step(line: &[u8], rows: &mut [u64], lists: &mut [u64], counts: Counts) -> Stepped
-    requires { Held rows.old counts × Roomy (length rows.old) counts × Keyed rows.old lists.old counts.types × (counts.used * 2 + length line.now ≤ length lists.old * 2) × (counts.lines < 65536) }
+#[tactic(auto, using(crate::proofs::JudgeLaws::left, crate::proofs::StepLaws::stepping))]
+pub fn step(
+    line: &[u8],
+    rows: &mut [u64],
+    lists: &mut [u64],
+    counts: Counts,
+) -> Result<Counts, Refusal>
+    requires { Open rows.old lists.old counts × (counts.used * 2 + length line.now ≤ length lists.old * 2) }
     ensures { StepAt (step_from (reading_of rows.old lists.old counts) (line_of line.now))
         line.now rows.new lists.new counts result }
 {
-    let used = counts.used;
-    let Formed::Line(form) = line_form(line, lists, used) else {
-        return Stepped::Turned(2);
-    };
-    match early(form, lists, counts) {
-        Verdict::Passed => late(form, rows, lists, counts),
-        Verdict::Refused(n) => Stepped::Turned(n),
-    }
+    let form = line_form(line, lists, counts.used).ok_or(Refusal::BadForm)?;
+    early(form, numbers_of(form, lists, counts), counts)?;
+    late(form, rows, lists, counts)
 }

@@ -1,7 +1,8 @@
 -- A value as records in pre-order: its own head, and the heads of its parts.
 use Rattle.std.specs.Prelude.{◌≡◌, refl, List, ◌∷◌, ◌++◌, map, [], ℕ, zero, suc, ◌≤◌, length, drop}
-use Rattle.std.proofs.Common.{sym, ap, append_assoc, append-nil, arith, length-drop, drop_at}
-use Rattle.std.proofs.Math.Option.{Option, none, some}
+use Rattle.std.proofs.Common.{sym, append_assoc, append-nil, arith, length-drop, drop_at}
+use Rattle.std.proofs.lemmas.List.{length-map}
+use Rattle.std.specs.Prelude.{Option, None, Some}
 use Rattle.spec.specs.Lir.{ByteOperand, BitOperand, ValueOperand, bit_operand, byte_operand, Value, value, Repr, unit, bit_value, bytes_value, aggregate, Values, no_values, ◌∷ᵛ◌, flatten_value_operands, flatten_repr, flatten_values}
 use Rattle.spec.specs.Operands.{nth_value, value_repr, value_type, repr_bytes, repr_bit}
 use Rattle.lir.specs.Abstract.{bit_operand_of, bytes_of, Small}
@@ -73,13 +74,8 @@ pub sound_append : (vs ws : List Val) → All_sound vs → All_sound ws → All_
 sound_append [] ws a b = b
 sound_append (v ∷ vs) ws a b = (a.0, sound_append vs ws a.1 b)
 
-pub map_append : (vs ws : List Val) → map head_of (vs ++ ws) ≡ map head_of vs ++ map head_of ws
-map_append [] ws = refl
-map_append (v ∷ vs) ws = ap (λ (z : List Head). head_of v ∷ z) (map_append vs ws)
-
 pub length_heads : (vs : List Val) → length (map head_of vs) ≡ length vs
-length_heads [] = refl
-length_heads (v ∷ vs) = ap suc (length_heads vs)
+length_heads vs = length-map vs head_of
 
 -- ---- a step that looks at a value's head alone may be given this value in its place
 
@@ -172,8 +168,8 @@ skip (suc i) (h ∷ hs) = skip i (drop (records h) hs)
 
 -- what stands at the i-th part
 abbrev pub Found : List Head → Option Value → Type 0
-Found hs none = hs ≡ []
-Found hs (some v) = (ks : List Head) × (hs ≡ root v ∷ (parts_of v ++ ks))
+Found hs None = hs ≡ []
+Found hs (Some v) = (ks : List Head) × (hs ≡ root v ∷ (parts_of v ++ ks))
 
 pub skip_found : (i : ℕ) (vs : Values) → Found (skip i (preorders vs)) (nth_value vs i)
 unfolding skip nth_value

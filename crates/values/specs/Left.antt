@@ -1,36 +1,37 @@
 -- What a step leaves behind, and which outcome it was.
-use Rattle.std.specs.Prelude.{◌≡◌, refl, List, ◌∷◌, ◌++◌, map, [], ℕ, ◌+◌, ◌*◌, length, take, set}
+use Rattle.std.specs.Prelude.{◌≡◌, refl, List, ◌∷◌, ◌++◌, map, [], ℕ, ◌+◌, ◌*◌, length, take, set, Result, Ok, Err}
 use Rattle.std.proofs.Common.{sym, ap, subst, append_assoc}
+use Rattle.answers.specs.declared.Refusal.{Refusal}
+use Rattle.answers.specs.declared.Refused.{Refused}
+use Rattle.answers.specs.Refusals.{refusal_number}
 use Rattle.spec.specs.Lir.{BitOperand, Value, Values}
 use Rattle.spec.specs.Monad.{Out, Outcome, done, refused}
 use Rattle.spec.specs.Monad as monad
 use Rattle.lir.specs.Abstract.{bit_operand_of}
 use Rattle.lir.specs.declared.BitOperand.{BitOperand as Bit}
 use Rattle.lir.specs.declared.Source.{Source}
-use Rattle.emission.specs.Appends.{Appends, texts, counters_of}
-use Rattle.values.specs.declared.State.{State}
+use Rattle.emission.specs.declared.emitter.Emitter.{Emitter}
+use Rattle.emission.specs.Appends.{Appends, counters_of}
+use Rattle.values.specs.declared.Lowering.{Lowering}
 use Rattle.values.specs.declared.Value.{Value as Val}
 use Rattle.values.specs.declared.Repr.{Repr as Rep}
-use Rattle.values.specs.declared.Lowered.{Lowered}
-use Rattle.values.specs.declared.BitLowered.{BitLowered}
-use Rattle.values.specs.declared.Listed.{Listed}
 use Rattle.values.specs.Heads.{Head, root, parts_of, preorders, count, head_of, Sound_value, All_sound}
 
--- the lent slices: the two texts, a mark for each older storage that was narrowed, and the value stack
-pub record Bufs : Type 0 where
-  pub code : List ℕ
-  pub store : List ℕ
-  pub narrowed : List ℕ
-  pub stack : List ℕ
+abbrev pub counters_in : Lowering → monad.Counters
+counters_in l = counters_of l.out
 
-abbrev pub bufs : List ℕ → List ℕ → List ℕ → List ℕ → Bufs
-bufs a b m c = record { code = a; store = b; narrowed = m; stack = c }
+-- the same but for the top
+abbrev pub at_top : Lowering → ℕ → Lowering
+at_top l t = record { out = l.out; narrowed = l.narrowed; stack = l.stack; top = t }
 
-abbrev pub counters_in : State → monad.Counters
-counters_in s = counters_of s.counters
+-- the same but for the texts
+abbrev pub with_out : Lowering → Emitter → Lowering
+with_out l e = record { out = e; narrowed = l.narrowed; stack = l.stack; top = l.top }
 
-abbrev pub at_top : State → ℕ → State
-at_top s t = record { counters = s.counters; top = t }
+-- the same but for the words on the stack
+abbrev pub with_stack : Lowering → List ℕ → Lowering
+with_stack l ws =
+    record { out = l.out; narrowed = l.narrowed; stack = record { ref_ptr = l.stack.ref_ptr; ghost_name = l.stack.ghost_name; now = ws }; top = l.top }
 
 -- the marks, with those of the storages ns set
 unfoldable pub marked : List ℕ → List ℕ → List ℕ
@@ -91,111 +92,88 @@ length_value v = length_repr v.ty v.repr
 -- ---------------------------------------------------------------- the effect of a step
 
 -- storages, narrowed storages and instructions of o appended, the counters cs, and records on the stack above what stood there
-pub record Left (b : Bufs) (s : State) (hs : List Head) (cs : monad.Counters) (o : Out) (b' : Bufs) (s' : State) : Type 0 where
-  pub appends : Appends (texts b.code b.store) s.counters o.storages o.instructions (texts b'.code b'.store) s'.counters
-  pub numbers : counters_in s' ≡ cs
-  pub narrows : b'.narrowed ≡ marked b.narrowed o.narrowed
+pub record Left (l : Lowering) (hs : List Head) (cs : monad.Counters) (o : Out) (l' : Lowering) : Type 0 where
+  pub appends : Appends l.out o.storages o.instructions l'.out
+  pub numbers : counters_in l' ≡ cs
+  pub narrows : l'.narrowed.now ≡ marked l.narrowed.now o.narrowed
+  pub marks : l'.narrowed.ghost_name ≡ l.narrowed.ghost_name
   pub parts : List Val
   pub shows : map head_of parts ≡ hs
   pub sound : All_sound parts
-  pub topped : s'.top ≡ s.top + 8 * length parts
-  pub stacked : take s'.top b'.stack ≡ take s.top b.stack ++ values_words parts
-  pub long : length b'.stack ≡ length b.stack
+  pub topped : l'.top ≡ l.top + 8 * length parts
+  pub stacked : take l'.top l'.stack.now ≡ take l.top l.stack.now ++ values_words parts
+  pub long : length l'.stack.now ≡ length l.stack.now
+  pub words : l'.stack.ghost_name ≡ l.stack.ghost_name
 
--- a definition's outcome against the code's answer: the same refusal, or the same value and what it leaves
-abbrev pub CaseValue : Bufs → State → Outcome Value → Bufs → Lowered → Type 0
-CaseValue b s (done v cs o) b' (Lowered.Done x s') = (head_of x ≡ root v) × Sound_value x × Left b s (parts_of v) cs o b' s'
-CaseValue b s (done v cs o) b' (Lowered.Refused m k) = ⊥
-CaseValue b s (refused m k) b' (Lowered.Done x s') = ⊥
-CaseValue b s (refused m k) b' (Lowered.Refused m' k') = (m' ≡ m) × (k' ≡ k)
+-- A definition's outcome against the code's answer: the same refusal; or an answer that is the definition's by P, and what it leaves, with
+-- the records hs of it on the stack.
+abbrev pub Case : {A B : Type 0} → (A → B → Type 0) → (A → List Head) → Lowering → Outcome A → Lowering → Result B (Refused Refusal) → Type 0
+Case P hs l (done v cs o) l' (Ok x) = P v x × Left l (hs v) cs o l'
+Case P hs l (done v cs o) l' (Err e) = ⊥
+Case P hs l (refused m k) l' (Ok x) = ⊥
+Case P hs l (refused m k) l' (Err e) = (refusal_number e.refusal ≡ m) × (e.line ≡ k)
 
-abbrev pub CaseBit : Bufs → State → Outcome BitOperand → Bufs → BitLowered → Type 0
-CaseBit b s (done v cs o) b' (BitLowered.Done x s') = (bit_operand_of x ≡ v) × Left b s [] cs o b' s'
-CaseBit b s (done v cs o) b' (BitLowered.Refused m k) = ⊥
-CaseBit b s (refused m k) b' (BitLowered.Done x s') = ⊥
-CaseBit b s (refused m k) b' (BitLowered.Refused m' k') = (m' ≡ m) × (k' ≡ k)
+pub record Shows {A B : Type 0} (P : A → B → Type 0) (hs : A → List Head) (l : Lowering) (o : Outcome A) (l' : Lowering) (r : Result B (Refused Refusal)) : Type 0 where
+  pub shown : Case P hs l o l' r
+
+-- a value, of which the parts are left
+pub record IsValue (v : Value) (x : Val) : Type 0 where
+  pub head : head_of x ≡ root v
+  pub sound : Sound_value x
+
+abbrev pub MeetsValue : Lowering → Outcome Value → Lowering → Result Val (Refused Refusal) → Type 0
+MeetsValue = Shows IsValue parts_of
+
+-- a bit
+abbrev pub IsBit : BitOperand → Bit → Type 0
+IsBit v x = bit_operand_of x ≡ v
+
+abbrev pub MeetsBit : Lowering → Outcome BitOperand → Lowering → Result Bit (Refused Refusal) → Type 0
+MeetsBit = Shows IsBit (λ _. [])
 
 -- t values, as parts
-abbrev pub CaseList : ℕ → Bufs → State → Outcome Values → Bufs → Listed → Type 0
-CaseList t b s (done vs cs o) b' (Listed.Done s') = (count vs ≡ t) × Left b s (preorders vs) cs o b' s'
-CaseList t b s (done vs cs o) b' (Listed.Refused m k) = ⊥
-CaseList t b s (refused m k) b' (Listed.Done s') = ⊥
-CaseList t b s (refused m k) b' (Listed.Refused m' k') = (m' ≡ m) × (k' ≡ k)
+abbrev pub AreParts : ℕ → Values → Unit {0} → Type 0
+AreParts t vs _ = count vs ≡ t
 
-pub record MeetsValue (b : Bufs) (s : State) (o : Outcome Value) (b' : Bufs) (r : Lowered) : Type 0 where
-  pub shown : CaseValue b s o b' r
-
-pub record MeetsBit (b : Bufs) (s : State) (o : Outcome BitOperand) (b' : Bufs) (r : BitLowered) : Type 0 where
-  pub shown : CaseBit b s o b' r
-
-pub record MeetsList (t : ℕ) (b : Bufs) (s : State) (o : Outcome Values) (b' : Bufs) (r : Listed) : Type 0 where
-  pub shown : CaseList t b s o b' r
+abbrev pub MeetsList : ℕ → Lowering → Outcome Values → Lowering → Result (Unit {0}) (Refused Refusal) → Type 0
+MeetsList t = Shows (AreParts t) preorders
 
 -- ---------------------------------------------------------------- which outcome it was
 
-pub record DoneValue (b : Bufs) (s : State) (o : Outcome Value) (b' : Bufs) (x : Val) (s' : State) : Type 0 where
-  pub v : Value
+pub record Done {A B : Type 0} (P : A → B → Type 0) (hs : A → List Head) (l : Lowering) (o : Outcome A) (l' : Lowering) (x : B) : Type 0 where
+  pub v : A
   pub out : Out
-  pub is : o ≡ done v (counters_in s') out
-  pub head : head_of x ≡ root v
-  pub sound : Sound_value x
-  pub left : Left b s (parts_of v) (counters_in s') out b' s'
+  pub is : o ≡ done v (counters_in l') out
+  pub shows : P v x
+  pub left : Left l (hs v) (counters_in l') out l'
 
-value_case : (b : Bufs) (s : State) (o : Outcome Value) (b' : Bufs) (x : Val) (s' : State) → CaseValue b s o b' (Lowered.Done x s') → DoneValue b s o b' x s'
-value_case b s (done v cs o) b' x s' m =
-    let e = sym m.2.numbers in
+abbrev pub DoneValue : Lowering → Outcome Value → Lowering → Val → Type 0
+DoneValue = Done IsValue parts_of
+
+done_case : {A B : Type 0} (P : A → B → Type 0) (hs : A → List Head) (l : Lowering) (o : Outcome A) (l' : Lowering) (x : B) → Case P hs l o l' (Ok x) → Done P hs l o l' x
+done_case P hs l (done v cs o) l' x m =
+    let e = sym m.1.numbers in
     record {
       v = v;
       out = o;
       is = ap (λ (z : monad.Counters). done v z o) e;
-      head = m.0;
-      sound = m.1;
-      left = subst (λ (z : monad.Counters). Left b s (parts_of v) z o b' s') e m.2;
+      shows = m.0;
+      left = subst (λ (z : monad.Counters). Left l (hs v) z o l') e m.1;
     }
-value_case b s (refused k l) b' x s' m = absurd m
+done_case P hs l (refused k n) l' x m = absurd m
 
-pub value_done : {b : Bufs} {s : State} {o : Outcome Value} {b' : Bufs} {r : Lowered} {x : Val} {s' : State}
-    → MeetsValue b s o b' r → r ≡ Lowered.Done x s' → DoneValue b s o b' x s'
-value_done {b} {s} {o} {b'} {r} {x} {s'} m e = value_case b s o b' x s' (subst (λ (z : Lowered). CaseValue b s o b' z) e m.shown)
+stop_case : {A B : Type 0} (P : A → B → Type 0) (hs : A → List Head) (l : Lowering) (o : Outcome A) (l' : Lowering) (x : Refused Refusal)
+    → Case P hs l o l' (Err x) → o ≡ refused (refusal_number x.refusal) x.line
+stop_case P hs l (done v cs o) l' x h = absurd h
+stop_case P hs l (refused m k) l' x h = rw (h.0, h.1)
 
-value_stop : (b : Bufs) (s : State) (o : Outcome Value) (b' : Bufs) (m k : ℕ) → CaseValue b s o b' (Lowered.Refused m k) → o ≡ refused m k
-value_stop b s (done v cs o) b' m k h = absurd h
-value_stop b s (refused m' k') b' m k h = rw (h.0, h.1)
+module _ {A B : Type 0} {P : A → B → Type 0} {hs : A → List Head} {l : Lowering} {o : Outcome A} {l' : Lowering} where
+  pub shown_done : {r : Result B (Refused Refusal)} {x : B} → Shows P hs l o l' r → r ≡ Ok x → Done P hs l o l' x
+  shown_done {r} {x} m e = done_case P hs l o l' x (subst (λ (z : Result B (Refused Refusal)). Case P hs l o l' z) e m.shown)
 
-pub value_refused : {b : Bufs} {s : State} {o : Outcome Value} {b' : Bufs} {r : Lowered} {m k : ℕ}
-    → MeetsValue b s o b' r → r ≡ Lowered.Refused m k → o ≡ refused m k
-value_refused {b} {s} {o} {b'} {r} {m} {k} h e = value_stop b s o b' m k (subst (λ (z : Lowered). CaseValue b s o b' z) e h.shown)
+  pub shown_refused : {r : Result B (Refused Refusal)} {x : Refused Refusal} → Shows P hs l o l' r → r ≡ Err x → o ≡ refused (refusal_number x.refusal) x.line
+  shown_refused {r} {x} h e = stop_case P hs l o l' x (subst (λ (z : Result B (Refused Refusal)). Case P hs l o l' z) e h.shown)
 
-pub record DoneBit (b : Bufs) (s : State) (o : Outcome BitOperand) (b' : Bufs) (x : Bit) (s' : State) : Type 0 where
-  pub out : Out
-  pub is : o ≡ done (bit_operand_of x) (counters_in s') out
-  pub left : Left b s [] (counters_in s') out b' s'
-
-bit_case : (b : Bufs) (s : State) (o : Outcome BitOperand) (b' : Bufs) (x : Bit) (s' : State) → CaseBit b s o b' (BitLowered.Done x s') → DoneBit b s o b' x s'
-bit_case b s (done v cs o) b' x s' m =
-    let e = sym m.1.numbers in
-    record {
-      out = o;
-      is = rw m.0 (ap (λ (z : monad.Counters). done v z o) e);
-      left = subst (λ (z : monad.Counters). Left b s [] z o b' s') e m.1;
-    }
-bit_case b s (refused k l) b' x s' m = absurd m
-
-pub bit_done : {b : Bufs} {s : State} {o : Outcome BitOperand} {b' : Bufs} {r : BitLowered} {x : Bit} {s' : State}
-    → MeetsBit b s o b' r → r ≡ BitLowered.Done x s' → DoneBit b s o b' x s'
-bit_done {b} {s} {o} {b'} {r} {x} {s'} m e = bit_case b s o b' x s' (subst (λ (z : BitLowered). CaseBit b s o b' z) e m.shown)
-
-bit_stop : (b : Bufs) (s : State) (o : Outcome BitOperand) (b' : Bufs) (m k : ℕ) → CaseBit b s o b' (BitLowered.Refused m k) → o ≡ refused m k
-bit_stop b s (done v cs o) b' m k h = absurd h
-bit_stop b s (refused m' k') b' m k h = rw (h.0, h.1)
-
-pub bit_refused : {b : Bufs} {s : State} {o : Outcome BitOperand} {b' : Bufs} {r : BitLowered} {m k : ℕ}
-    → MeetsBit b s o b' r → r ≡ BitLowered.Refused m k → o ≡ refused m k
-bit_refused {b} {s} {o} {b'} {r} {m} {k} h e = bit_stop b s o b' m k (subst (λ (z : BitLowered). CaseBit b s o b' z) e h.shown)
-
-pub record DoneList (t : ℕ) (b : Bufs) (s : State) (o : Outcome Values) (b' : Bufs) (s' : State) : Type 0 where
-  pub vs : Values
-  pub out : Out
-  pub is : o ≡ done vs (counters_in s') out
-  pub many : count vs ≡ t
-  pub left : Left b s (preorders vs) (counters_in s') out b' s'
+  -- a refusal, as the definition's
+  pub stops : {x : Refused Refusal} → o ≡ refused (refusal_number x.refusal) x.line → Shows P hs l o l' (Err x)
+  stops e = record { shown = rw e (refl, refl) }

@@ -2,4 +2,3 @@ pub mod Heads
 pub mod Left
 pub mod Laws
 pub mod Stack
-pub mod Stores

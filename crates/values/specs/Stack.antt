@@ -1,5 +1,5 @@
 -- The records on the value stack, read back; extract and select over them.
-use Rattle.std.specs.Prelude.{◌≡◌, refl, ◌&&◌, List, ◌∷◌, ◌++◌, map, [], ℕ, zero, suc, ◌+◌, ◌-◌, ◌*◌, ◌≤◌, ◌<◌, eqb, length, take, drop, get_or}
+use Rattle.std.specs.Prelude.{◌≡◌, refl, ◌&&◌, List, ◌∷◌, ◌++◌, map, [], ℕ, zero, suc, ◌+◌, ◌-◌, ◌*◌, ◌≤◌, eqb, length, take, drop, get_or, Option, None, Some}
 use Rattle.std.proofs.Common.{sym, ap, ◌∙◌, arith, drop_at, take-take, take-add, length-take-le}
 use Rattle.spec.specs.Hir.{At}
 use Rattle.spec.specs.Lir.{BitOperand, ValueOperand, Value}
@@ -12,12 +12,11 @@ use Rattle.spec.specs.ReadBytes.{read_location}
 use Rattle.spec.specs.Select.{select_pieces, select_to_location, lower_select}
 use Rattle.lir.specs.declared.BitOperand.{BitOperand as Bit}
 use Rattle.lir.specs.declared.Source.{Source}
-use Rattle.values.specs.declared.State.{State}
+use Rattle.values.specs.declared.Lowering.{Lowering}
 use Rattle.values.specs.declared.Value.{Value as Val}
 use Rattle.values.specs.declared.Repr.{Repr as Rep}
-use Rattle.values.specs.declared.Lowered.{Lowered}
 use Rattle.values.specs.Heads.{Sound_value, Shape, unit_shape, bit_shape, bytes_shape, aggregate_shape, Head, root, parts_of, head_of, All_sound, operands_of, flatten_preorder, skip, records}
-use Rattle.values.specs.Left.{Bufs, Left, at_top, bit_words, bytes_words, repr_words, value_words, values_words}
+use Rattle.values.specs.Left.{Left, bit_words, bytes_words, repr_words, value_words, values_words}
 use Rattle.values.specs.Laws.{left_kept}
 
 abbrev pub source_in : ℕ → ℕ → ℕ → Source
@@ -33,21 +32,6 @@ repr_in zero p q r s u = Rep.Unit
 repr_in (suc zero) p q r s u = Rep.Bit (bit_in p q)
 repr_in (suc (suc zero)) p q r s u = Rep.Bytes (record { source = source_in p q r; count = s; total = u })
 repr_in (suc (suc (suc t))) p q r s u = Rep.Aggregate p q
-
--- a tag that is none of the others
-pub source_stored : (t x y : ℕ) → (t ≡ 0 → ⊥) → Source.Storage (record { storage = record { 0 = x }; offset = y }) ≡ source_in t x y
-source_stored zero x y h = absurd (h refl)
-source_stored (suc t) x y h = refl
-
-pub bit_stored : (t x : ℕ) → (t ≡ 0 → ⊥) → Bit.Storage (record { 0 = x }) ≡ bit_in t x
-bit_stored zero x h = absurd (h refl)
-bit_stored (suc t) x h = refl
-
-pub repr_parted : (t p q r s u : ℕ) → 2 < t → Rep.Aggregate p q ≡ repr_in t p q r s u
-repr_parted zero p q r s u h = absurd (omega arith)
-repr_parted (suc zero) p q r s u h = absurd (omega arith)
-repr_parted (suc (suc zero)) p q r s u h = absurd (omega arith)
-repr_parted (suc (suc (suc t))) p q r s u h = refl
 
 -- the value whose record stands at a place of the stack
 unfoldable pub value_at : List ℕ → ℕ → Val
@@ -110,30 +94,30 @@ words_between stack ws vs from to e le fit h =
     sym (drop_at (take from stack) (take (to - from) (drop from stack)) from lt) ∙ ap (λ (z : List ℕ). drop from z) both ∙ drop_at ws (values_words vs) from e
 
 -- the records that a step has left
-pub between_left : {b : Bufs} {c : State} {hs : List Head} {s : monad.Counters} {o : Out} {b1 : Bufs} {c1 : State} (l : Left b c hs s o b1 c1) → c.top ≤ length b.stack → between b1.stack c.top c1.top ≡ l.parts
-between_left {b} {c} {hs} {s} {o} {b1} {c1} l h =
-    let w = words_between b1.stack (take c.top b.stack) l.parts c.top c1.top (length-take-le c.top b.stack h) (omega arith) (omega arith) l.stacked in
-    ap values_in w ∙ values_back l.parts
+pub between_left : {l : Lowering} {hs : List Head} {s : monad.Counters} {o : Out} {l1 : Lowering} (a : Left l hs s o l1) → l.top ≤ length l.stack.now → between l1.stack.now l.top l1.top ≡ a.parts
+between_left {l} {l1 = l1} a h =
+    let w = words_between l1.stack.now (take l.top l.stack.now) a.parts l.top l1.top (length-take-le l.top l.stack.now h) (omega arith) (omega arith) a.stacked in
+    ap values_in w ∙ values_back a.parts
 
-pub stands_left : {b : Bufs} {c : State} {hs : List Head} {s : monad.Counters} {o : Out} {b1 : Bufs} {c1 : State} (l : Left b c hs s o b1 c1) → c.top ≤ length b.stack → Stands b1.stack c.top c1.top
-stands_left {b} {c} {hs} {s} {o} {b1} {c1} l h =
-    let e = between_left l h in
-    let w = words_between b1.stack (take c.top b.stack) l.parts c.top c1.top (length-take-le c.top b.stack h) (omega arith) (omega arith) l.stacked in
-    record { whole = rw e w; sound = rw e l.sound; ends = rw e l.topped }
+pub stands_left : {l : Lowering} {hs : List Head} {s : monad.Counters} {o : Out} {l1 : Lowering} (a : Left l hs s o l1) → l.top ≤ length l.stack.now → Stands l1.stack.now l.top l1.top
+stands_left {l} {l1 = l1} a h =
+    let e = between_left a h in
+    let w = words_between l1.stack.now (take l.top l.stack.now) a.parts l.top l1.top (length-take-le l.top l.stack.now h) (omega arith) (omega arith) a.stacked in
+    record { whole = rw e w; sound = rw e a.sound; ends = rw e a.topped }
 
 -- a later step leaves them
-pub between_kept : {b : Bufs} {c : State} {hs : List Head} {s : monad.Counters} {o : Out} {b1 : Bufs} {c1 : State} (l : Left b c hs s o b1 c1) (from to : ℕ) → from ≤ to → to ≤ c.top → c.top ≤ length b.stack → take (to - from) (drop from b1.stack) ≡ take (to - from) (drop from b.stack)
-between_kept {b} {c} {hs} {s} {o} {b1} {c1} l from to h1 h2 h3 =
-    let k = left_kept l h3 in
+pub between_kept : {l : Lowering} {hs : List Head} {s : monad.Counters} {o : Out} {l1 : Lowering} (a : Left l hs s o l1) (from to : ℕ) → from ≤ to → to ≤ l.top → l.top ≤ length l.stack.now → take (to - from) (drop from l1.stack.now) ≡ take (to - from) (drop from l.stack.now)
+between_kept {l} {l1 = l1} a from to h1 h2 h3 =
+    let k = left_kept a h3 in
     let e2 : from + (to - from) ≡ to = omega arith in
-    let t1 : take to b1.stack ≡ take to b.stack = sym (take-take to c.top b1.stack h2) ∙ ap (λ (z : List ℕ). take to z) k ∙ take-take to c.top b.stack h2 in
-    let f1 : from ≤ length b1.stack = omega arith in
-    let s1 : take from b1.stack ++ take (to - from) (drop from b1.stack) ≡ take from b.stack ++ take (to - from) (drop from b.stack) = sym (take-add from (to - from) b1.stack) ∙ ap (λ (i : ℕ). take i b1.stack) e2 ∙ t1 ∙ ap (λ (i : ℕ). take i b.stack) (sym e2) ∙ take-add from (to - from) b.stack in
-    sym (drop_at (take from b1.stack) (take (to - from) (drop from b1.stack)) from (length-take-le from b1.stack f1)) ∙ ap (λ (z : List ℕ). drop from z) s1 ∙ drop_at (take from b.stack) (take (to - from) (drop from b.stack)) from (length-take-le from b.stack (omega arith))
+    let t1 : take to l1.stack.now ≡ take to l.stack.now = sym (take-take to l.top l1.stack.now h2) ∙ ap (λ (z : List ℕ). take to z) k ∙ take-take to l.top l.stack.now h2 in
+    let f1 : from ≤ length l1.stack.now = omega arith in
+    let s1 : take from l1.stack.now ++ take (to - from) (drop from l1.stack.now) ≡ take from l.stack.now ++ take (to - from) (drop from l.stack.now) = sym (take-add from (to - from) l1.stack.now) ∙ ap (λ (i : ℕ). take i l1.stack.now) e2 ∙ t1 ∙ ap (λ (i : ℕ). take i l.stack.now) (sym e2) ∙ take-add from (to - from) l.stack.now in
+    sym (drop_at (take from l1.stack.now) (take (to - from) (drop from l1.stack.now)) from (length-take-le from l1.stack.now f1)) ∙ ap (λ (z : List ℕ). drop from z) s1 ∙ drop_at (take from l.stack.now) (take (to - from) (drop from l.stack.now)) from (length-take-le from l.stack.now (omega arith))
 
-pub stands_kept : {b : Bufs} {c : State} {hs : List Head} {s : monad.Counters} {o : Out} {b1 : Bufs} {c1 : State} (l : Left b c hs s o b1 c1) {from to : ℕ} → from ≤ to → to ≤ c.top → c.top ≤ length b.stack → Stands b.stack from to → Stands b1.stack from to
-stands_kept l {from} {to} h1 h2 h3 s =
-    let e = between_kept l from to h1 h2 h3 in
+pub stands_kept : {l : Lowering} {hs : List Head} {s : monad.Counters} {o : Out} {l1 : Lowering} (a : Left l hs s o l1) {from to : ℕ} → from ≤ to → to ≤ l.top → l.top ≤ length l.stack.now → Stands l.stack.now from to → Stands l1.stack.now from to
+stands_kept a {from} {to} h1 h2 h3 s =
+    let e = between_kept a from to h1 h2 h3 in
     record { whole = rw e s.whole; sound = rw e s.sound; ends = rw e s.ends }
 
 -- ---------------------------------------------------------------- extract over records
@@ -145,21 +129,23 @@ found_in (bit_shape b) hs i = []
 found_in (bytes_shape b) hs i = []
 found_in (aggregate_shape n m) hs i = skip i hs
 
-pub record Moved (stack : List ℕ) (c : State) (hs : List Head) (stack' : List ℕ) (c' : State) : Type 0 where
+-- the parts of the kind hs alone moved to the top
+pub record Moved (stack : List ℕ) (top : ℕ) (hs : List Head) (stack' : List ℕ) (top' : ℕ) : Type 0 where
   pub parts : List Val
   pub shows : map head_of parts ≡ hs
   pub sound : All_sound parts
-  pub counters : c' ≡ at_top c (c.top + 8 * length parts)
-  pub stacked : take (c.top + 8 * length parts) stack' ≡ take c.top stack ++ values_words parts
+  pub topped : top' ≡ top + 8 * length parts
+  pub stacked : take (top + 8 * length parts) stack' ≡ take top stack ++ values_words parts
 
-abbrev pub CaseExtract : List ℕ → State → ℕ → List Head → List ℕ → Lowered → Type 0
-CaseExtract stack c line [] stack' (Lowered.Done x c') = ⊥
-CaseExtract stack c line [] stack' (Lowered.Refused n l) = (n ≡ 24) × (l ≡ line)
-CaseExtract stack c line (h ∷ hs) stack' (Lowered.Done x c') = (head_of x ≡ h) × Sound_value x × Moved stack c (take (records h) hs) stack' c'
-CaseExtract stack c line (h ∷ hs) stack' (Lowered.Refused n l) = ⊥
+abbrev pub CaseExtract : List ℕ → ℕ → List Head → List ℕ → Option (Val × ℕ) → Type 0
+CaseExtract stack top [] stack' None = Unit {0}
+CaseExtract stack top [] stack' (Some x) = ⊥
+CaseExtract stack top (h ∷ hs) stack' None = ⊥
+CaseExtract stack top (h ∷ hs) stack' (Some x) = (head_of x.0 ≡ h) × Sound_value x.0 × Moved stack top (take (records h) hs) stack' x.1
 
-pub record Extracts (stack : List ℕ) (c : State) (end : ℕ) (v : Val) (i line : ℕ) (stack' : List ℕ) (r : Lowered) : Type 0 where
-  pub shown : CaseExtract stack c line (found_in (head_of v).shape (heads stack c.top end) i) stack' r
+-- part i of v, whose parts stand from the top to an end: with its own parts moved down to the top
+pub record Extracts (stack : List ℕ) (top end : ℕ) (v : Val) (i : ℕ) (stack' : List ℕ) (r : Option (Val × ℕ)) : Type 0 where
+  pub shown : CaseExtract stack top (found_in (head_of v).shape (heads stack top end) i) stack' r
 
 -- ---------------------------------------------------------------- select over operands
 

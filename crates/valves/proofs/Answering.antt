@@ -1,106 +1,133 @@
--- The public functions' answers, by the branch that gives them.
-use Prim.Native.Nat.{ℕ, ◌≤◌, ◌<◌}
-use mathlib.Core.Path.{◌≡◌, refl, sym, ap, ◌∙◌}
+-- The public functions' answers, by what they tested before.
+use Prim.Native.Nat.{ℕ}
+use mathlib.Core.Path.{◌≡◌, refl, ap, ◌∙◌}
+use mathlib.Core.Bool.{false, ◌&&◌}
 use mathlib.Core.List.{List}
-use mathlib.Core.Option.{Option, some}
+use Rattle.std.specs.Prelude.{Option, None, Some, Result, Ok, Err, IsErrAnd, MatchResult, ◌≢◌, nat_le}
+use Rattle.std.specs.Option.{ok_or}
+use Rattle.std.specs.Array.{IsWholeChunk}
+use Rattle.std.proofs.lemmas.Result.{err_from_is_err_and}
 use borrow.Author.Tests.{le-leb, lt-leb, eq-eqb, ne_eqb}
-use lib.ListN.{length}
-use Rattle.spec.specs.Answer.{refused, fitted, left_in}
+use native.Mathlib.Omega.{arith}
+use lib.ListN.{length, drop, length-append}
+use lib.Seq.{take_at}
+use Rattle.spec.specs.Answer.{refused, accepted, fitted, left_in}
 use Rattle.spec.specs.Answer as spec-answer
-use Rattle.valves.specs.Maps.{mask_valves, list_valves, board_map, map_of}
-use Rattle.valves.specs.Tickets.{ticket_text, on_board, eight_bytes, of_map, mask_answer, list_answer, Answers}
-use Rattle.valves.specs.declared.Answer.{Answer}
-use Rattle.valves.specs.declared.Map.{Map}
+use Rattle.answers.specs.declared.Refused.{Refused}
+use Rattle.valves.specs.Maps.{mask_valves, list_valves, board_map}
+use Rattle.valves.specs.Tickets.{ticket_text, on_board, eight_bytes, of_map, mask_answer, list_answer}
+use Rattle.valves.specs.Refusals.{refusal_number}
+use Rattle.valves.specs.Shown.{Answers, Written}
+use Rattle.valves.specs.declared.board.Board.{Board}
+use Rattle.valves.specs.declared.refusal.Refusal.{Refusal}
 
--- ---------------------------------------------------------------- tests on N and on the mask
+-- ---------------------------------------------------------------- refused, or written
 
-module _ (N : ℕ) (a : spec-answer.Answer) where
-  board_low : N < 1 → on_board N a ≡ refused 35 0
+-- the reason that was given where there is nothing
+pub because : {X : Type 0} (o : Option X) (e b : Refusal) → Err e ≡ ok_or o b → o ≡ None → e ≡ b
+because {X} o e b v n = let f : ◌≡◌ {A = Result X Refusal} (Err e) (Err b) = rw n at v in cc
+
+module _ (a : spec-answer.Answer) (l : List ℕ) where
+  -- a refusal writes nothing
+  refused_by : (e : Refusal) → a ≡ refused (refusal_number e) 0 → Answers a l l (Err (record { refusal = e; line = 0 }))
+  unfolding left_in
+  refused_by e q = rw q (record { answer = refl; left = refl; within = tt })
+
+  module _ (r : Result ℕ (Refused Refusal)) (e : Refusal) (p : IsErrAnd r (λ x. x ≡ record { refusal = e; line = 0 })) where
+    told : r ≡ Err (record { refusal = e; line = 0 })
+    told = let q = err_from_is_err_and r p in q.1 ∙ ap Err q.2
+
+    pub refuses : (b : Refusal) → e ≡ b → a ≡ refused (refusal_number b) 0 → Answers a l l r
+    refuses b g q = rw (told, g) (refused_by b q)
+
+    pub too_long : (x l' : List ℕ) → Written x l l' (Err e) → a ≡ fitted (length l) x → Answers a l l' r
+    unfolding fitted
+    too_long x l' w q = rw (told, w.0, w.2) (refused_by Refusal.LongTicket (q ∙ rw (lt-leb (length x) (length l) w.1, fitted)))
+
+  pub fits : (x l' : List ℕ) (k : ℕ) → Written x l l' (Ok k) → a ≡ fitted (length l) x → Answers a l l' (Ok k)
+  unfolding fitted left_in
+  fits x l' k w q =
+      let h : a ≡ accepted x = q ∙ rw (le-leb (length x) (length l) w.1, fitted) in
+      rw (h, w.0, w.2)
+      (record {
+        answer = ap accepted (take_at x (drop (length x) l) (length x) refl);
+        left = refl;
+        within = rw (length-append x (drop (length x) l)) (omega arith);
+      })
+
+-- ---------------------------------------------------------------- the tests
+
+module _ (a : spec-answer.Answer) where
+  no_board : (N : ℕ) → (nat_le 1 N && nat_le N 64) ≡ false → on_board N a ≡ refused 35 0
   unfolding on_board
-  board_low h = rw (lt-leb 1 N h, on_board)
+  no_board N h = rw (h, on_board)
 
-  board_high : 1 ≤ N → 64 < N → on_board N a ≡ refused 35 0
+  a_board : (b : Board) → on_board b.valves a ≡ a
   unfolding on_board
-  board_high g h = rw (le-leb 1 N g, lt-leb N 64 h, on_board)
+  a_board b = rw (le-leb 1 b.valves b.positive, le-leb b.valves 64 b.fits, on_board)
 
-  board : 1 ≤ N → N ≤ 64 → on_board N a ≡ a
-  unfolding on_board
-  board g h = rw (le-leb 1 N g, le-leb N 64 h, on_board)
-
-module _ (mask : List ℕ) (a : spec-answer.Answer) where
-  other_bytes : (length mask ≡ 8 → ⊥) → eight_bytes mask a ≡ refused 36 0
+  other_bytes : (mask : List ℕ) → (length mask ≡ 8 → ⊥) → eight_bytes mask a ≡ refused 36 0
   unfolding eight_bytes
-  other_bytes h = rw (ne_eqb (length mask) 8 h, eight_bytes)
+  other_bytes mask h = rw (ne_eqb (length mask) 8 h, eight_bytes)
 
-  eight : length mask ≡ 8 → eight_bytes mask a ≡ a
+  eight : (mask : List ℕ) → length mask ≡ 8 → eight_bytes mask a ≡ a
   unfolding eight_bytes
-  eight h = rw (eq-eqb (length mask) 8 h, eight_bytes)
+  eight mask h = rw (eq-eqb (length mask) 8 h, eight_bytes)
 
--- ---------------------------------------------------------------- a map
-
--- a refusal writes nothing
-untouched : (a : spec-answer.Answer) (l : List ℕ) (n : ℕ) → a ≡ refused n 0 → Answers a l l (Answer.Refused n 0)
-unfolding left_in
-untouched a l n e = rw e (record { answer = refl; left = refl; within = tt })
-
-module _ (N : ℕ) (o : Option ℕ) (r : Map) (p : map_of r ≡ o) where
-  faulty : (l : List ℕ) → r ≡ Map.Faulty → Answers (of_map N (length l) o) l l (Answer.Refused 35 0)
+module _ (N room : ℕ) (o : Option ℕ) where
+  no_map : None ≡ o → of_map N room o ≡ refused 35 0
   unfolding of_map
-  faulty l e = untouched (of_map N (length l) o) l 35 (rw (sym p ∙ ap map_of e))
+  no_map e = rw (← e)
 
-  written : (l l' : List ℕ) (m : ℕ) (a : Answer) → r ≡ Map.Bits m → Answers (fitted (length l) (ticket_text N m)) l l' a → Answers (of_map N (length l) o) l l' a
+  some_map : (m : ℕ) → Some m ≡ o → of_map N room o ≡ fitted room (ticket_text N m)
   unfolding of_map
-  written l l' m a e w = rw (sym p ∙ ap map_of e) w
+  some_map m e = rw (← e)
 
 -- ---------------------------------------------------------------- a mask
 
-module _ (N : ℕ) (mask l : List ℕ) where
-  pub mask_low : N < 1 → Answers (mask_answer N mask (length l)) l l (Answer.Refused 35 0)
+module _ (mask : List ℕ) (room : ℕ) where
+  pub mask_board : (N : ℕ) → (nat_le 1 N && nat_le N 64) ≡ false → mask_answer N mask room ≡ refused 35 0
   unfolding mask_answer
-  mask_low h = untouched (mask_answer N mask (length l)) l 35 (board_low N _ h)
+  mask_board N h = no_board _ N h
 
-  module _ (g : 1 ≤ N) where
-    pub mask_high : 64 < N → Answers (mask_answer N mask (length l)) l l (Answer.Refused 35 0)
+  module _ (b : Board) where
+    pub mask_other : (length mask ≡ 8 → ⊥) → mask_answer b.valves mask room ≡ refused 36 0
     unfolding mask_answer
-    mask_high h = untouched (mask_answer N mask (length l)) l 35 (board_high N _ g h)
+    mask_other k = a_board _ b ∙ other_bytes _ mask k
 
-    module _ (h : N ≤ 64) where
-      pub mask_other : (length mask ≡ 8 → ⊥) → Answers (mask_answer N mask (length l)) l l (Answer.Refused 36 0)
+    module _ (k : length mask ≡ 8) where
+      pub mask_faulty : None ≡ board_map b.valves (Some (mask_valves mask)) → mask_answer b.valves mask room ≡ refused 35 0
       unfolding mask_answer
-      mask_other k = untouched (mask_answer N mask (length l)) l 36 (board N _ g h ∙ other_bytes mask _ k)
+      mask_faulty e = a_board _ b ∙ eight _ mask k ∙ no_map b.valves room _ e
 
-      module _ (k : length mask ≡ 8) where
-        mask_is : mask_answer N mask (length l) ≡ of_map N (length l) (board_map N (some (mask_valves mask)))
-        unfolding mask_answer
-        mask_is = board N _ g h ∙ eight mask _ k
+      pub mask_is : (m : ℕ) → Some m ≡ board_map b.valves (Some (mask_valves mask)) → mask_answer b.valves mask room ≡ fitted room (ticket_text b.valves m)
+      unfolding mask_answer
+      mask_is m e = a_board _ b ∙ eight _ mask k ∙ some_map b.valves room _ m e
 
-        module _ (r : Map) (p : map_of r ≡ board_map N (some (mask_valves mask))) where
-          pub mask_faulty : r ≡ Map.Faulty → Answers (mask_answer N mask (length l)) l l (Answer.Refused 35 0)
-          mask_faulty e = rw mask_is (faulty N _ r p l e)
+-- eight bytes as an array
+module _ {E : Type 0} (s : List ℕ) where
+  pub not_eight : (r : Result (List ℕ) E) (e : Refusal) (K : E → Type 0) → MatchResult r (λ y. IsWholeChunk s y 8) (λ _. length s ≢ 8)
+      → MatchResult r (λ x. ◌≡◌ {A = Result (List ℕ) Refusal} (Err e) (Ok x)) K → (x : E) × K x × (length s ≢ 8)
+  not_eight (Ok y) e K h k = cc
+  not_eight (Err x) e K h k = (x, k, h)
 
-          pub mask_written : (l' : List ℕ) (m : ℕ) (a : Answer) → r ≡ Map.Bits m → Answers (fitted (length l) (ticket_text N m)) l l' a → Answers (mask_answer N mask (length l)) l l' a
-          mask_written l' m a e w = rw mask_is (written N _ r p l l' m a e w)
+  pub is_eight : (r : Result (List ℕ) E) (y : List ℕ) → MatchResult r (λ y. IsWholeChunk s y 8) (λ _. length s ≢ 8)
+      → MatchResult r (λ x. ◌≡◌ {A = Result (List ℕ) Refusal} (Ok y) (Ok x)) (λ _. ⊥) → IsWholeChunk s y 8
+  is_eight (Ok z) y h k = let f : y ≡ z = cc in rw f h
+  is_eight (Err x) y h k = absurd k
 
 -- ---------------------------------------------------------------- a list
 
-module _ (N : ℕ) (list l : List ℕ) where
-  pub list_low : N < 1 → Answers (list_answer N list (length l)) l l (Answer.Refused 35 0)
+module _ (list : List ℕ) (room : ℕ) where
+  pub list_board : (N : ℕ) → (nat_le 1 N && nat_le N 64) ≡ false → list_answer N list room ≡ refused 35 0
   unfolding list_answer
-  list_low h = untouched (list_answer N list (length l)) l 35 (board_low N _ h)
+  list_board N h = no_board _ N h
 
-  module _ (g : 1 ≤ N) where
-    pub list_high : 64 < N → Answers (list_answer N list (length l)) l l (Answer.Refused 35 0)
+  module _ (b : Board) where
+    pub list_faulty : None ≡ board_map b.valves (list_valves list) → list_answer b.valves list room ≡ refused 35 0
     unfolding list_answer
-    list_high h = untouched (list_answer N list (length l)) l 35 (board_high N _ g h)
+    list_faulty e = a_board _ b ∙ no_map b.valves room _ e
 
-    module _ (h : N ≤ 64) where
-      list_is : list_answer N list (length l) ≡ of_map N (length l) (board_map N (list_valves list))
-      unfolding list_answer
-      list_is = board N _ g h
-
-      module _ (r : Map) (p : map_of r ≡ board_map N (list_valves list)) where
-        pub list_faulty : r ≡ Map.Faulty → Answers (list_answer N list (length l)) l l (Answer.Refused 35 0)
-        list_faulty e = rw list_is (faulty N _ r p l e)
-
-        pub list_written : (l' : List ℕ) (m : ℕ) (a : Answer) → r ≡ Map.Bits m → Answers (fitted (length l) (ticket_text N m)) l l' a → Answers (list_answer N list (length l)) l l' a
-        list_written l' m a e w = rw list_is (written N _ r p l l' m a e w)
+    pub list_is : (m : ℕ) → Some m ≡ board_map b.valves (list_valves list) → list_answer b.valves list room ≡ fitted room (ticket_text b.valves m)
+    unfolding list_answer
+    list_is m e = a_board _ b ∙ some_map b.valves room _ m e

@@ -1,7 +1,7 @@
 -- Worked maps, computed: the list 12 and the mask of 2048 on a board of 12, the mask 12, the empty list, and the order of the refusals.
 use mathlib.Core.Path.{◌≡◌, refl}
 use mathlib.Core.List.{List, ◌∷◌, []}
-use mathlib.Core.Option.{some}
+use Rattle.std.specs.Prelude.{Some}
 use Prim.Native.Nat.{ℕ}
 use Rattle.spec.specs.Text.{bytes, text}
 use Rattle.spec.specs.Machine.{le}
@@ -42,7 +42,7 @@ the_mask_12 : mask_valves (mask 12 0) ≡ 3 ∷ 4 ∷ []
 unfolding le set_bits mask_valves
 the_mask_12 = refl
 
-the_empty_list : board_map 12 (list_valves []) ≡ some 0
+the_empty_list : board_map 12 (list_valves []) ≡ Some 0
 unfolding list_valves rising map_number board_map
 the_empty_list = refl
 

@@ -1,15 +1,14 @@
 -- A list's valves from field to field: those passed make a number, and what is left goes on from the last of them.
 use Prim.Native.Nat.{ℕ, suc, ◌+◌, ◌-◌, ◌*◌, ◌%◌, ◌^◌, ◌≤◌, ◌<◌}
 use mathlib.Core.Path.{◌≡◌, refl, sym, ap, ◌∙◌}
+use mathlib.Core.Logic.{◌⊎◌, ⊎_elim}
 use mathlib.Core.List.{List, ◌∷◌, []}
-use mathlib.Core.Option.{Option, none, some}
+use Rattle.std.specs.Prelude.{Option, None, Some}
 use native.Mathlib.Omega.{arith}
 use native.Mathlib.Nat.{pow-suc, add_assoc, zero-add, add-zero, mod-eq_of_lt}
 use borrow.Author.Tests.{lt-ltb, le-ltb, le-leb, lt-leb}
 use lib.ListN.{length}
 use Rattle.fields.specs.Fields.{fields_from, NumberAt, cons_number, numbers_of}
-use Rattle.fields.specs.declared.Cursor.{Cursor}
-use Rattle.fields.specs.declared.Decimal.TheVariants.{Value, Malformed}
 use Rattle.fields.proofs.Marks.{fields_start, fields_none, fields_some}
 use Rattle.fields.proofs.Lines.{first_none, first_some}
 use lib.Pow.{pow_mono}
@@ -19,24 +18,26 @@ use Rattle.valves.specs.Maps.{list_valves, rising, map_number, when, board_map}
 
 -- the number of valves that rise from above `last`, behind others whose number is m
 abbrev onward : ℕ → ℕ → ℕ → Option (List ℕ) → Option ℕ
-onward N last m none = none
-onward N last m (some vs) = when (rising N last vs) (m + map_number vs)
+onward N last m None = None
+onward N last m (Some vs) = when (rising N last vs) (m + map_number vs)
 
 module _ (N last m v : ℕ) where
-  onward_more : (o : Option (List ℕ)) → last < v → v ≤ N → onward N last m (cons_number (some v) o) ≡ onward N v (m + 2 ^ (v - 1)) o
+  onward_more : (o : Option (List ℕ)) → last < v → v ≤ N → onward N last m (cons_number (Some v) o) ≡ onward N v (m + 2 ^ (v - 1)) o
   unfolding rising map_number
-  onward_more none h g = refl
-  onward_more (some vs) h g = rw (lt-ltb last v h, le-leb v N g, add_assoc m (2 ^ (v - 1)) (map_number vs))
+  onward_more None h g = refl
+  onward_more (Some vs) h g = rw (lt-ltb last v h, le-leb v N g, add_assoc m (2 ^ (v - 1)) (map_number vs))
 
-  onward_low : (o : Option (List ℕ)) → v ≤ last → onward N last m (cons_number (some v) o) ≡ none
+  onward_not : (o : Option (List ℕ)) → (v ≤ last) ⊎ ((last < v) × (N < v)) → onward N last m (cons_number (Some v) o) ≡ None
   unfolding rising
-  onward_low none h = refl
-  onward_low (some vs) h = rw (le-ltb last v h)
+  onward_not None w = refl
+  onward_not (Some vs) w = ⊎_elim (λ h. rw (le-ltb last v h)) (λ h. rw (lt-ltb last v h.0, lt-leb v N h.1)) w
 
-  onward_high : (o : Option (List ℕ)) → last < v → N < v → onward N last m (cons_number (some v) o) ≡ none
-  unfolding rising
-  onward_high none h g = refl
-  onward_high (some vs) h g = rw (lt-ltb last v h, lt-leb v N g)
+bit_is : (v : ℕ) → 1 ≤ v → v ≤ 64 → 1 * 2 ^ (v - 1) % 18446744073709551616 ≡ 2 ^ (v - 1)
+bit_is v h g =
+    let e : 1 * 2 ^ (v - 1) ≡ 2 ^ (v - 1) = omega arith in
+    let i : v - 1 ≤ 63 = omega arith in
+    let k = pow_mono i in
+    rw e (mod-eq_of_lt (omega arith))
 
 -- ---------------------------------------------------------------- from field to field
 
@@ -48,10 +49,10 @@ pub record Passed (N : ℕ) (s : List ℕ) (p last m : ℕ) : Type 0 where
 
 whole : (N : ℕ) (o : Option (List ℕ)) → board_map N o ≡ onward N 0 0 o
 unfolding board_map
-whole N none = refl
-whole N (some vs) = rw (zero-add (map_number vs))
+whole N None = refl
+whole N (Some vs) = rw (zero-add (map_number vs))
 
-pub list_empty : (N : ℕ) (s : List ℕ) → length s ≡ 0 → some 0 ≡ board_map N (list_valves s)
+pub list_empty : (N : ℕ) (s : List ℕ) → length s ≡ 0 → Some 0 ≡ board_map N (list_valves s)
 unfolding list_valves board_map rising map_number
 list_empty N [] e = refl
 list_empty N (b ∷ s) e = absurd (omega arith)
@@ -67,19 +68,16 @@ passed_none N (b ∷ s) h =
     }
 
 module _ (N : ℕ) (s : List ℕ) (p last m : ℕ) (d : Passed N s p last m) where
-  pub passed_all : length s < p → some m ≡ board_map N (list_valves s)
+  pub passed_all : length s < p → Some m ≡ board_map N (list_valves s)
   unfolding numbers_of rising map_number
   passed_all h = sym (d.is ∙ rw (fields_none s p h, add-zero m))
 
-  pub passed_bad : p ≤ length s → NumberAt s p Malformed → none ≡ board_map N (list_valves s)
+  pub passed_bad : p ≤ length s → NumberAt s p None → None ≡ board_map N (list_valves s)
   passed_bad h a = sym (d.is ∙ rw (first_none (fields_from s p) (fields_some s p h) a.answer))
 
-  module _ (v : ℕ) (c : Cursor) (a : NumberAt s p (Value v c)) where
-    pub passed_low : v ≤ last → none ≡ board_map N (list_valves s)
-    passed_low h = sym (d.is ∙ rw (first_some (fields_from s p) v (fields_from s c.at) a.answer) (onward_low N last m v (numbers_of (fields_from s c.at)) h))
-
-    pub passed_high : last < v → N < v → none ≡ board_map N (list_valves s)
-    passed_high h g = sym (d.is ∙ rw (first_some (fields_from s p) v (fields_from s c.at) a.answer) (onward_high N last m v (numbers_of (fields_from s c.at)) h g))
+  module _ (v next : ℕ) (a : NumberAt s p (Some (v, next))) where
+    pub passed_wrong : (v ≤ last) ⊎ ((last < v) × (N < v)) → None ≡ board_map N (list_valves s)
+    passed_wrong w = sym (d.is ∙ rw (first_some (fields_from s p) v (fields_from s next) a.answer) (onward_not N last m v (numbers_of (fields_from s next)) w))
 
     module _ (h : last < v) (g : v ≤ N) where
       larger : m + 2 ^ (v - 1) < 2 ^ v
@@ -90,22 +88,14 @@ module _ (N : ℕ) (s : List ℕ) (p last m : ℕ) (d : Passed N s p last m) whe
           let w : 2 ^ v ≡ 2 ^ (v - 1) * 2 = ap (λ (z : ℕ). 2 ^ z) t ∙ pow-suc 2 (v - 1) in
           omega (arith, d.bound)
 
-      pub passed_room : N ≤ 64 → m + 2 ^ (v - 1) < 2 ^ 64
-      passed_room n = let i : v ≤ 64 = omega arith in omega (arith, larger, pow_mono i)
-
-      pub passed_more : Passed N s c.at v (m + 2 ^ (v - 1))
-      passed_more =
-          record {
+      -- the bit is put as the code shifts it
+      pub passed_more : N ≤ 64 → Passed N s next v (m + 1 * 2 ^ (v - 1) % 18446744073709551616)
+      passed_more n =
+          rw (bit_is v (omega arith) (omega arith))
+          (record {
             board = g;
             bound = larger;
-            is = d.is ∙ rw (first_some (fields_from s p) v (fields_from s c.at) a.answer) (onward_more N last m v (numbers_of (fields_from s c.at)) h g);
-          }
+            is = d.is ∙ rw (first_some (fields_from s p) v (fields_from s next) a.answer) (onward_more N last m v (numbers_of (fields_from s next)) h g);
+          })
 
--- ---------------------------------------------------------------- a valve's bit
-
-pub bit_is : (v : ℕ) → 1 ≤ v → v ≤ 64 → 1 * 2 ^ (v - 1) % 18446744073709551616 ≡ 2 ^ (v - 1)
-bit_is v h g =
-    let e : 1 * 2 ^ (v - 1) ≡ 2 ^ (v - 1) = omega arith in
-    let i : v - 1 ≤ 63 = omega arith in
-    let k = pow_mono i in
-    rw e (mod-eq_of_lt (omega arith))
+pub ruleset list_laws = (list_empty, passed_none, passed_all, passed_bad, passed_wrong, passed_more)

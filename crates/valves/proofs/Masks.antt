@@ -1,56 +1,19 @@
--- A mask's number from its bytes, the highest first; the valves that its bits name rise, and make that number again.
+-- The valves that a mask's bits name rise, and make its number again.
 use Prim.Native.Nat.{ℕ, zero, suc, ◌+◌, ◌-◌, ◌*◌, ◌/◌, ◌%◌, ◌^◌, ◌≤◌, ◌<◌}
 use mathlib.Core.Path.{◌≡◌, refl, sym, ap, ◌∙◌}
 use mathlib.Core.Bool.{Bool, true, false}
 use mathlib.Core.List.{List}
-use mathlib.Core.Option.{none, some}
+use Rattle.std.specs.Prelude.{None, Some}
 use native.Mathlib.Omega.{arith}
-use native.Mathlib.Nat.{pow-suc, pow-le-pow_right, mul_assoc, mul_comm, add-mul, div-lt_iff_lt-mul, div-eq_of_lt}
-use lib.Pow.{pow_pos}
+use native.Mathlib.Nat.{pow-suc, mul_assoc, mul_comm, add-mul, div-lt_iff_lt-mul, div-eq_of_lt}
+use lib.Pow.{pow_pos, pow_mono}
 use lib.Dec.{eqb, leb, ltb}
 use borrow.Author.Tests.{ltb-true, ltb-false, leb-true, leb-false, lt-ltb, le-ltb, eqb-true, eqb-false}
 use lib.ListN.{length, get_or, drop, drop_of_length-le}
 use lib.Seq.{drop-cons}
 use Rattle.spec.specs.Machine.{le}
+use Rattle.std.specs.Int.{w64, from_le_bytes}
 use Rattle.valves.specs.Maps.{set_bits, mask_valves, rising, map_number, when, board_map}
-
--- ---------------------------------------------------------------- from byte to byte
-
--- v is the number of the bytes from i on
-pub record Bytes (mask : List ℕ) (i v : ℕ) : Type 0 where
-  pub most : i ≤ 8
-  pub is : v ≡ le (drop i mask)
-  pub bound : v < 256 ^ (8 - i)
-
-one_more : (s : List ℕ) (i : ℕ) → i < length s → le (drop i s) ≡ get_or s i 0 + 256 * le (drop (suc i) s)
-unfolding le
-one_more s i h = rw (drop-cons s i 0 h)
-
-pub bytes_none : (mask : List ℕ) → length mask ≡ 8 → Bytes mask 8 0
-unfolding le
-bytes_none mask e = let h : length mask ≤ 8 = omega arith in record { most = omega arith; is = rw (drop_of_length-le mask h); bound = omega arith }
-
-module _ (mask : List ℕ) (i v : ℕ) (b : Bytes mask i v) (h : 0 < i) where
-  small : v < 256 ^ 7
-  small = let k : 8 - i ≤ 7 = omega arith in omega (arith, b.bound, pow-le-pow_right {n = 256} (omega arith) k)
-
-  pub bytes_room : v * 256 + 255 < 2 ^ 64
-  bytes_room = omega (arith, small)
-
-  pub bytes_more : length mask ≡ 8 → get_or mask (i - 1) 0 < 256 → Bytes mask (i - 1) (v * 256 + get_or mask (i - 1) 0)
-  bytes_more e g =
-      let s : suc (i - 1) ≡ i = omega arith in
-      let k : i - 1 < length mask = omega (arith, b.most) in
-      let t : 8 - (i - 1) ≡ suc (8 - i) = omega (arith, b.most) in
-      record {
-        most = omega (arith, b.most);
-        is = omega (arith, b.is, one_more mask (i - 1) k, ap (λ (z : ℕ). le (drop z mask)) s);
-        bound = rw t (omega (arith, b.bound, pow-suc 256 (8 - i)));
-      }
-
-pub bytes_all : (mask : List ℕ) (i v : ℕ) → Bytes mask i v → i ≤ 0 → v ≡ le mask
-bytes_all mask zero v b h = b.is
-bytes_all mask (suc i) v b h = absurd (omega arith)
 
 -- ---------------------------------------------------------------- the valves of set bits
 
@@ -127,20 +90,42 @@ module _ (N : ℕ) (mask : List ℕ) (e : length mask ≡ 8) (m : ℕ) (q : m �
   unfolding mask_valves
   mask_sum = rw (e, ← q, bits_number 64 0 m g) (omega arith)
 
-  mask_board : board_map N (some (mask_valves mask)) ≡ when (ltb m (2 ^ N)) m
+  mask_board : board_map N (Some (mask_valves mask)) ≡ when (ltb m (2 ^ N)) m
   unfolding board_map
   mask_board = rw (mask_rises, mask_sum)
 
-  pub mask_fits : m < 2 ^ N → some m ≡ board_map N (some (mask_valves mask))
+  mask_fits : m < 2 ^ N → Some m ≡ board_map N (Some (mask_valves mask))
   mask_fits h = sym (mask_board ∙ rw (lt-ltb m (2 ^ N) h))
 
-  -- as the code tests it
-  pub mask_shifted : m / 2 ^ N ≡ 0 → some m ≡ board_map N (some (mask_valves mask))
-  mask_shifted h = mask_fits (omega (arith, (div-lt_iff_lt-mul {x = m} {y = 1} (pow_pos N)).0 (omega arith)))
+  mask_none : 2 ^ N ≤ m → None ≡ board_map N (Some (mask_valves mask))
+  mask_none h = sym (mask_board ∙ rw (le-ltb m (2 ^ N) h))
 
-  pub mask_over : (m / 2 ^ N ≡ 0 → ⊥) → none ≡ board_map N (some (mask_valves mask))
-  mask_over h = sym (mask_board ∙ rw (le-ltb m (2 ^ N) (by (ltb m (2 ^ N)) refl)))
+-- ---------------------------------------------------------------- as the code tests it
+
+one_more : (s : List ℕ) (i : ℕ) → i < length s → le (drop i s) ≡ get_or s i 0 + 256 * le (drop (suc i) s)
+unfolding le
+one_more s i h = rw (drop-cons s i 0 h)
+
+-- eight bytes are one word
+word_of : (s : List ℕ) → length s ≡ 8 → from_le_bytes w64 s ≡ le s
+unfolding le
+word_of s e =
+    let h : length s ≤ 8 = omega arith in
+    let z : le (drop 8 s) ≡ 0 = rw (drop_of_length-le s h) in
+    omega (arith, z, one_more s 0 (omega arith), one_more s 1 (omega arith), one_more s 2 (omega arith), one_more s 3 (omega arith), one_more s 4 (omega arith), one_more s 5 (omega arith), one_more s 6 (omega arith), one_more s 7 (omega arith))
+
+module _ (N : ℕ) (mask : List ℕ) (e : length mask ≡ 8) (m : ℕ) (w : m ≡ from_le_bytes w64 mask) (g : m < 2 ^ 64) where
+  pub mask_whole : 64 ≤ N → Some m ≡ board_map N (Some (mask_valves mask))
+  mask_whole h = mask_fits N mask e m (w ∙ word_of mask e) g (omega (arith, pow_mono h))
+
+  pub mask_shifted : m / 2 ^ N ≡ 0 → Some m ≡ board_map N (Some (mask_valves mask))
+  mask_shifted h = mask_fits N mask e m (w ∙ word_of mask e) g (omega (arith, (div-lt_iff_lt-mul {x = m} {y = 1} (pow_pos N)).0 (omega arith)))
+
+  pub mask_over : (m / 2 ^ N ≡ 0 → ⊥) → None ≡ board_map N (Some (mask_valves mask))
+  mask_over h = mask_none N mask e m (w ∙ word_of mask e) g (by (ltb m (2 ^ N)) refl)
     where
       by : (t : Bool) → ltb m (2 ^ N) ≡ t → 2 ^ N ≤ m
       by true f = absurd (h (div-eq_of_lt (ltb-true m (2 ^ N) f)))
       by false f = ltb-false m (2 ^ N) f
+
+pub ruleset mask_laws = (mask_whole, mask_shifted, mask_over)

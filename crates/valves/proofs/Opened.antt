@@ -4,7 +4,7 @@ use Prim.Native.Nat.{ℕ, ◌+◌, ◌^◌, ◌≤◌, ◌<◌}
 use mathlib.Core.Path.{◌≡◌, refl, sym}
 use mathlib.Core.Bool.{Bool, true, false}
 use mathlib.Core.List.{List}
-use mathlib.Core.Option.{Option, none, some}
+use Rattle.std.specs.Prelude.{Option, None, Some, Ok}
 use native.Mathlib.Omega.{arith}
 use lib.Dec.{eqb, leb}
 use lib.ListN.{length, take}
@@ -24,8 +24,8 @@ use Rattle.spec.specs.Answer as spec-answer
 use Rattle.spec.proofs.Bools.{and_true}
 use Rattle.spec.proofs.Demand2.{demand_2}
 use Rattle.valves.specs.Maps.{mask_valves, list_valves, rising, map_number, when, board_map}
-use Rattle.valves.specs.Tickets.{bytes_for, ticket_text, on_board, eight_bytes, of_map, mask_answer, list_answer, Answers}
-use Rattle.valves.specs.declared.Answer.{Answer}
+use Rattle.valves.specs.Tickets.{bytes_for, ticket_text, on_board, eight_bytes, of_map, mask_answer, list_answer}
+use Rattle.valves.specs.Shown.{Answers}
 use Rattle.valves.specs.Opening.{tables, held, Opens}
 use Rattle.valves.proofs.Reading.{reads}
 use Rattle.valves.proofs.Bits.{map_small, or_opens}
@@ -42,7 +42,7 @@ module _ (N m : ℕ) where
   right = refl
 
   module _ (G : Given) (M : Memory) where
-    means : eval (tables N m) G M (root (tables N m)) ≡ some (number (bytes_for N) (ior N (held M N) m))
+    means : eval (tables N m) G M (root (tables N m)) ≡ Some (number (bytes_for N) (ior N (held M N) m))
     unfolding computing tables eval read_data located stored_data word_data plain_data binary_numeric held
     means = refl
 
@@ -60,7 +60,7 @@ pub record Made (N : ℕ) (o : Option (List ℕ)) (t : List ℕ) : Type 0 where
   pub low : 1 ≤ N
   pub high : N ≤ 64
   pub valves : List ℕ
-  pub named : o ≡ some valves
+  pub named : o ≡ Some valves
   pub rises : rising N 0 valves ≡ true
   pub is : t ≡ ticket_text N (map_number valves)
 
@@ -91,19 +91,19 @@ by_room room x t e = by (leb (length x) room) refl e
 
 by_map : (N room : ℕ) (o : Option (List ℕ)) (t : List ℕ) → 1 ≤ N → N ≤ 64 → of_map N room (board_map N o) ≡ accepted t → Made N o t
 unfolding of_map board_map
-by_map N room none t g h e = absurd (never 35 0 t e)
-by_map N room (some vs) t g h e = by (rising N 0 vs) refl e
+by_map N room None t g h e = absurd (never 35 0 t e)
+by_map N room (Some vs) t g h e = by (rising N 0 vs) refl e
   where
-    by : (x : Bool) → rising N 0 vs ≡ x → of_map N room (when x (map_number vs)) ≡ accepted t → Made N (some vs) t
+    by : (x : Bool) → rising N 0 vs ≡ x → of_map N room (when x (map_number vs)) ≡ accepted t → Made N (Some vs) t
     by true f e = record { low = g; high = h; valves = vs; named = refl; rises = f; is = by_room room (ticket_text N (map_number vs)) t e }
     by false f e = absurd (never 35 0 t e)
 
 module _ (N : ℕ) (map : List ℕ) (room : ℕ) (t : List ℕ) where
-  pub mask_made : mask_answer N map room ≡ accepted t → Made N (some (mask_valves map)) t
+  pub mask_made : mask_answer N map room ≡ accepted t → Made N (Some (mask_valves map)) t
   unfolding mask_answer
   mask_made e =
-      let b = by_board N (eight_bytes map (of_map N room (board_map N (some (mask_valves map))))) t e in
-      by_map N room (some (mask_valves map)) t b.0 b.1 (by_eight map (of_map N room (board_map N (some (mask_valves map)))) t b.2)
+      let b = by_board N (eight_bytes map (of_map N room (board_map N (Some (mask_valves map))))) t e in
+      by_map N room (Some (mask_valves map)) t b.0 b.1 (by_eight map (of_map N room (board_map N (Some (mask_valves map)))) t b.2)
 
   pub list_made : list_answer N map room ≡ accepted t → Made N (list_valves map) t
   unfolding list_answer
@@ -146,14 +146,14 @@ module _ (N : ℕ) (o : Option (List ℕ)) (t : List ℕ) (d : Made N o t) where
 
 -- the ticket is the first k bytes of the buffer: the premise is what each function ensures where it accepts
 module _ (N : ℕ) (map buffer buffer' : List ℕ) (k : ℕ) where
-  pub mask_opens : Answers (mask_answer N map (length buffer)) buffer buffer' (Answer.Accepted k)
+  pub mask_opens : Answers (mask_answer N map (length buffer)) buffer buffer' (Ok k)
       → (room s : List ℕ) → answer (take k buffer') (length room) ≡ accepted s → (G : Given) (M : Memory) → Proper M → held M N < 2 ^ N → Opens N (mask_valves map) G M s
   mask_opens a room s e G M p h =
       let d = mask_made N map (length buffer) (take k buffer') (sym a.answer) in
       let q : d.valves ≡ mask_valves map = cc d.named in
-      rw q at (opens N (some (mask_valves map)) (take k buffer') d room s e G M p h)
+      rw q at (opens N (Some (mask_valves map)) (take k buffer') d room s e G M p h)
 
-  pub list_opens : Answers (list_answer N map (length buffer)) buffer buffer' (Answer.Accepted k) → (vs : List ℕ) → list_valves map ≡ some vs
+  pub list_opens : Answers (list_answer N map (length buffer)) buffer buffer' (Ok k) → (vs : List ℕ) → list_valves map ≡ Some vs
       → (room s : List ℕ) → answer (take k buffer') (length room) ≡ accepted s → (G : Given) (M : Memory) → Proper M → held M N < 2 ^ N → Opens N vs G M s
   list_opens a vs n room s e G M p h =
       let d = list_made N map (length buffer) (take k buffer') (sym a.answer) in

@@ -3,7 +3,7 @@ use Prim.Native.Nat.{ℕ, ◌+◌, ◌^◌, ◌≤◌, ◌<◌}
 use mathlib.Core.Path.{◌≡◌, refl, ap, ◌∙◌}
 use mathlib.Core.Bool.{Bool, true, ◌&&◌}
 use mathlib.Core.List.{List, ◌∷◌, ◌++◌, append_assoc, []}
-use mathlib.Core.Option.{none, some}
+use Rattle.std.specs.Prelude.{None, Some}
 use native.Mathlib.Omega.{arith}
 use lib.Dec.{leb}
 use borrow.Author.Tests.{le-leb}
@@ -111,29 +111,29 @@ line_is c cs = rw (split_fields c cs)
 word : {w : List ℕ} → free 44 w ≡ true → free 10 w ≡ true → Clean w
 word a b = record { no_comma = a; no_feed = b }
 
-two : texts.number (bytes "2") ≡ some 2
+two : texts.number (bytes "2") ≡ Some 2
 unfolding texts.number numeral horner all_digits good_start
 two = refl
 
-one : texts.number (bytes "1") ≡ some 1
+one : texts.number (bytes "1") ≡ Some 1
 unfolding texts.number numeral horner all_digits good_start
 one = refl
 
-thirty_six : texts.number (bytes "36") ≡ some 36
+thirty_six : texts.number (bytes "36") ≡ Some 36
 unfolding texts.number numeral horner all_digits good_start
 thirty_six = refl
 
 abbrev type_form_of : ℕ → Line
 type_form_of N = record { head = t_line t_bits; args = plain (between 1 64) N ∷ [] }
 
-type_is : (N : ℕ) → N < 2 ^ 64 → line_of (type_line N) ≡ some (type_form_of N)
+type_is : (N : ℕ) → N < 2 ^ 64 → line_of (type_line N) ≡ Some (type_form_of N)
 unfolding find texts.same form_of type_form args_of rest_args
 type_is N h = line_is {w = bytes "t"} (word refl refl) (field {f = bytes "bits"} (word refl refl) (field (digits_clean N) no_fields)) ∙ rw (number_digits N h)
 
 abbrev storage_form_of : ℕ → Line
 storage_form_of L = record { head = s_line; args = plain (up_to 3) 2 ∷ plain (up_to greatest_16) L ∷ plain (up_to 1) 1 ∷ plain (up_to all_regions) 36 ∷ [] }
 
-storage_is : (L : ℕ) → L < 2 ^ 64 → line_of (storage_line L) ≡ some (storage_form_of L)
+storage_is : (L : ℕ) → L < 2 ^ 64 → line_of (storage_line L) ≡ Some (storage_form_of L)
 unfolding find texts.same form_of args_of rest_args
 storage_is L h =
     line_is {w = bytes "s"} (word refl refl)
@@ -143,7 +143,7 @@ storage_is L h =
 abbrev constant_form_of : ℕ → Line
 constant_form_of m = record { head = n_line n_int; args = plain type 2 ∷ plain any m ∷ [] }
 
-constant_is : (m : ℕ) → m < 2 ^ 64 → line_of (constant_line m) ≡ some (constant_form_of m)
+constant_is : (m : ℕ) → m < 2 ^ 64 → line_of (constant_line m) ≡ Some (constant_form_of m)
 unfolding find texts.same form_of node_form args_of rest_args
 constant_is m h =
     line_is {w = bytes "n"} (word refl refl) (field {f = bytes "2"} (word refl refl) (field {f = bytes "int"} (word refl refl) (field (digits_clean m) no_fields)))
@@ -152,7 +152,7 @@ constant_is m h =
 -- ---------------------------------------------------------------- the tests of a line
 
 nine : (a b c d e f g h i : Bool) → a ≡ true → b ≡ true → c ≡ true → d ≡ true → e ≡ true → f ≡ true → g ≡ true → h ≡ true → i ≡ true
-    → first_failed (test 2 a ∷ test 8 b ∷ test 3 c ∷ test 4 d ∷ test 5 e ∷ test 6 f ∷ test 7 g ∷ test 9 h ∷ test 10 i ∷ []) ≡ none
+    → first_failed (test 2 a ∷ test 8 b ∷ test 3 c ∷ test 4 d ∷ test 5 e ∷ test 6 f ∷ test 7 g ∷ test 9 h ∷ test 10 i ∷ []) ≡ None
 unfolding first_failed
 nine a b c d e f g h i p q r s t u v w x = rw (p, q, r, s, t, u, v, w, x)
 
@@ -160,22 +160,22 @@ passes : (R : Reading) (x : Line) → in_order R.stage (rank x.head) ≡ true �
     → (all in_range x.args && fields_fit x.head (values x.args)) ≡ true → all (λ a. earlier R.tables a) x.args ≡ true
     → types_right R.tables x.head (values x.args) ≡ true → small_enough R.tables x.head (values x.args) ≡ true
     → once x.args R.used ≡ true → leb (depth_of R.tables x.args) (depth_allowed x.head) ≡ true
-    → sums_fit R x.head (values x.args) ≡ true → refusal_of R x ≡ none
+    → sums_fit R x.head (values x.args) ≡ true → refusal_of R x ≡ None
 unfolding refusal_of
 passes R x a b c d e f g h i = nine _ _ _ _ _ _ _ _ _ a b c d e f g h i
 
 -- a line that has a form and passes every test is taken
-takes : (R : Reading) (l k : List ℕ) (ls : List (List ℕ)) (x : Line) → line_of l ≡ some x → refusal_of R x ≡ none → read_lines (l ∷ k ∷ ls) R ≡ read_lines (k ∷ ls) (add R x)
+takes : (R : Reading) (l k : List ℕ) (ls : List (List ℕ)) (x : Line) → line_of l ≡ Some x → refusal_of R x ≡ None → read_lines (l ∷ k ∷ ls) R ≡ read_lines (k ∷ ls) (add R x)
 unfolding read_lines step
 takes R l k ls x e f = rw (e, f, read_lines)
 
 -- from one state to another, line by line
 data Taken : List (List ℕ) → Reading → Reading → Type 0 where
   end : {R : Reading} → Taken [] R R
-  next : {l : List ℕ} {ls : List (List ℕ)} {R R' : Reading} {x : Line} → line_of l ≡ some x → refusal_of R x ≡ none → Taken ls (add R x) R' → Taken (l ∷ ls) R R'
+  next : {l : List ℕ} {ls : List (List ℕ)} {R R' : Reading} {x : Line} → line_of l ≡ Some x → refusal_of R x ≡ None → Taken ls (add R x) R' → Taken (l ∷ ls) R R'
 
 -- the empty line behind the last line feed is there, so a line is never the last
-taken_on : (R : Reading) (l : List ℕ) (ls : List (List ℕ)) (x : Line) → line_of l ≡ some x → refusal_of R x ≡ none
+taken_on : (R : Reading) (l : List ℕ) (ls : List (List ℕ)) (x : Line) → line_of l ≡ Some x → refusal_of R x ≡ None
     → read_lines (l ∷ (ls ++ ([] ∷ []))) R ≡ read_lines (ls ++ ([] ∷ [])) (add R x)
 taken_on R l [] x e f = takes R l [] [] x e f
 taken_on R l (k ∷ ls) x e f = takes R l k (ls ++ ([] ∷ [])) x e f
@@ -227,78 +227,78 @@ R8 N = add (R7 N) read_form
 abbrev R9 : ℕ → ℕ → Reading
 R9 N m = add (R8 N) (constant_form_of m)
 
-form_1 : line_of (bytes "f,0,0") ≡ some head_form
+form_1 : line_of (bytes "f,0,0") ≡ Some head_form
 unfolding computing
 form_1 = refl
 
-form_2 : line_of (bytes "t,bool") ≡ some bool_form
+form_2 : line_of (bytes "t,bool") ≡ Some bool_form
 unfolding computing
 form_2 = refl
 
-form_3 : line_of (bytes "t,pointer") ≡ some pointer_form
+form_3 : line_of (bytes "t,pointer") ≡ Some pointer_form
 unfolding computing
 form_3 = refl
 
-form_6 : line_of (bytes "v,0,0,2,0") ≡ some variable_form
+form_6 : line_of (bytes "v,0,0,2,0") ≡ Some variable_form
 unfolding computing
 form_6 = refl
 
-form_7 : line_of (bytes "p,variable,0") ≡ some place_form
+form_7 : line_of (bytes "p,variable,0") ≡ Some place_form
 unfolding computing
 form_7 = refl
 
-form_8 : line_of (bytes "n,2,read,0") ≡ some read_form
+form_8 : line_of (bytes "n,2,read,0") ≡ Some read_form
 unfolding computing
 form_8 = refl
 
-form_10 : line_of (bytes "n,2,binary,8,0,1") ≡ some or_form
+form_10 : line_of (bytes "n,2,binary,8,0,1") ≡ Some or_form
 unfolding computing
 form_10 = refl
 
-passes_1 : refusal_of start head_form ≡ none
+passes_1 : refusal_of start head_form ≡ None
 unfolding computing
 passes_1 = refl
 
-passes_2 : refusal_of (add start head_form) bool_form ≡ none
+passes_2 : refusal_of (add start head_form) bool_form ≡ None
 unfolding computing
 passes_2 = refl
 
-passes_3 : refusal_of (add (add start head_form) bool_form) pointer_form ≡ none
+passes_3 : refusal_of (add (add start head_form) bool_form) pointer_form ≡ None
 unfolding computing
 passes_3 = refl
 
 module _ (N m : ℕ) (low : 1 ≤ N) (high : N ≤ 64) (small : m < 2 ^ 64) where
-  passes_4 : refusal_of R3 (type_form_of N) ≡ none
+  passes_4 : refusal_of R3 (type_form_of N) ≡ None
   unfolding computing
   passes_4 =
       passes R3 (type_form_of N) refl refl (and_true (and_true (and_true (le-leb 1 N low) (le-leb N 64 high)) refl) refl) refl refl
       (and_true (le-leb (bytes_for N) 1024 (omega arith)) refl) refl refl refl
 
-  passes_5 : refusal_of (R4 N) (storage_form_of (bytes_for N)) ≡ none
+  passes_5 : refusal_of (R4 N) (storage_form_of (bytes_for N)) ≡ None
   unfolding computing
   passes_5 =
       let r = and_true (le-leb 0 (bytes_for N) (omega arith)) (le-leb (bytes_for N) 65535 (omega arith)) in
       passes (R4 N) (storage_form_of (bytes_for N)) refl refl (and_true (and_true r refl) (le-leb 1 (bytes_for N) (omega arith))) refl refl refl refl refl refl
 
-  passes_6 : refusal_of (R5 N) variable_form ≡ none
+  passes_6 : refusal_of (R5 N) variable_form ≡ None
   unfolding computing
   passes_6 = refl
 
-  passes_7 : refusal_of (add (R5 N) variable_form) place_form ≡ none
+  passes_7 : refusal_of (add (R5 N) variable_form) place_form ≡ None
   unfolding computing
   passes_7 = refl
 
-  passes_8 : refusal_of (R7 N) read_form ≡ none
+  passes_8 : refusal_of (R7 N) read_form ≡ None
   unfolding computing
   passes_8 = passes (R7 N) read_form refl refl refl refl refl refl refl refl (and_true (le-leb (0 + bytes_for N) size_sum_limit (omega arith)) refl)
 
-  passes_9 : refusal_of (R8 N) (constant_form_of m) ≡ none
+  passes_9 : refusal_of (R8 N) (constant_form_of m) ≡ None
   unfolding computing
   passes_9 =
       let r = and_true (le-leb 0 m (omega arith)) (le-leb m 18446744073709551615 (omega arith)) in
       passes (R8 N) (constant_form_of m) refl refl (and_true (and_true r refl) refl) refl refl refl refl refl (and_true (le-leb (0 + bytes_for N + bytes_for N) size_sum_limit (omega arith)) refl)
 
-  passes_10 : refusal_of (R9 N m) or_form ≡ none
+  passes_10 : refusal_of (R9 N m) or_form ≡ None
   unfolding computing
   passes_10 = passes (R9 N m) or_form refl refl refl refl refl refl refl refl (and_true (le-leb (0 + bytes_for N + bytes_for N + bytes_for N) size_sum_limit (omega arith)) refl)
 

@@ -1,10 +1,9 @@
 -- Valve maps of a board: the valves that a mask or a list names, and their number, in which valve v is bit v - 1.
 use Rattle.std.specs.Prelude.{ℕ, zero, suc, ◌+◌, ◌-◌, ◌*◌, ◌/◌, ◌%◌, ◌^◌, Bool, true, false, ◌&&◌, List, ◌∷◌, [], eqb, leb, ltb, length}
-use Rattle.std.proofs.Math.Option.{Option, none, some}
+use Rattle.std.specs.Prelude.{Option, None, Some}
 use Rattle.spec.specs.Text.{split, comma}
 use Rattle.spec.specs.Machine.{le}
 use Rattle.fields.specs.Fields.{numbers_of}
-use Rattle.valves.specs.declared.Map.{Map}
 
 -- ---------------------------------------------------------------- the valves named
 
@@ -19,7 +18,7 @@ mask_valves mask = set_bits (8 * length mask) 1 (le mask)
 
 -- a list's fields are numbers in document 01's form, or it names nothing; an empty list names no valve
 unfoldable pub list_valves : List ℕ → Option (List ℕ)
-list_valves [] = some []
+list_valves [] = Some []
 list_valves (b ∷ s) = numbers_of (split comma (b ∷ s))
 
 -- ---------------------------------------------------------------- a board's map
@@ -34,15 +33,10 @@ map_number [] = 0
 map_number (v ∷ vs) = 2 ^ (v - 1) + map_number vs
 
 abbrev pub when : Bool → ℕ → Option ℕ
-when true m = some m
-when false m = none
+when true m = Some m
+when false m = None
 
 -- the number of a map of a board of N valves, whose valves are 1 to N and rise
 unfoldable pub board_map : ℕ → Option (List ℕ) → Option ℕ
-board_map N none = none
-board_map N (some vs) = when (rising N 0 vs) (map_number vs)
-
--- the code's map
-abbrev pub map_of : Map → Option ℕ
-map_of (Map.Bits m) = some m
-map_of Map.Faulty = none
+board_map N None = None
+board_map N (Some vs) = when (rising N 0 vs) (map_number vs)

@@ -1,6 +1,6 @@
 -- What a map's ticket reads as, and what it is to open valves: a run of the listing leaves the valves open that were, and those named.
 use Rattle.std.specs.Prelude.{◌||◌, ℕ, ◌-◌, ◌/◌, ◌%◌, ◌^◌, ◌≤◌, ◌<◌, List, ◌∷◌, map, [], ◌≡◌, eqb}
-use Rattle.std.proofs.Math.Option.{some}
+use Rattle.std.specs.Prelude.{Some}
 use Rattle.numerics.specs.Numerics.{truth}
 use Rattle.spec.specs.Ticket.{Tables, t_bool, t_pointer, t_bits, p_variable, n_read, n_int, n_binary}
 use Rattle.spec.specs.Lir.{Listing, stored}
@@ -49,9 +49,9 @@ held M N = le (operands M (map stored (bytes_from 0 0 (bytes_for N))))
 -- as it was
 pub record Opens (N : ℕ) (vs : List ℕ) (G : Given) (M : Memory) (s : List ℕ) : Type 0 where
   pub listing : Listing
-  pub reads : read_listing s ≡ some listing
+  pub reads : read_listing s ≡ Some listing
   pub after : Memory
-  pub runs : run G listing.instructions M ≡ some after
+  pub runs : run G listing.instructions M ≡ Some after
   pub result : ℕ
   pub value : data_of after listing.value ≡ number (bytes_for N) result
   pub bound : result < 2 ^ N

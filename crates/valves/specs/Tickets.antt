@@ -1,11 +1,9 @@
 -- The ticket that opens a map's valves, and the answer to every board, map and lent buffer.
-use Rattle.std.specs.Prelude.{ℕ, ◌+◌, ◌/◌, ◌≤◌, true, false, ◌&&◌, List, ◌∷◌, ◌++◌, [], ◌≡◌, eqb, leb, length, take}
-use Rattle.std.proofs.Math.Option.{Option, none, some}
+use Rattle.std.specs.Prelude.{ℕ, ◌+◌, ◌/◌, true, false, ◌&&◌, List, ◌∷◌, ◌++◌, [], eqb, leb, length}
+use Rattle.std.specs.Prelude.{Option, None, Some}
 use Rattle.spec.specs.Text.{bytes, text, line, digits}
-use Rattle.spec.specs.Answer.{refused, accepted, fitted, left_in}
-use Rattle.spec.specs.Answer as spec-answer
+use Rattle.spec.specs.Answer.{Answer, refused, fitted}
 use Rattle.valves.specs.Maps.{mask_valves, list_valves, board_map}
-use Rattle.valves.specs.declared.Answer.{Answer}
 
 -- ---------------------------------------------------------------- the ticket
 
@@ -34,37 +32,20 @@ ticket_text N m = types_text N ++ storage_text N ++ nodes_text m
 -- ---------------------------------------------------------------- the answers
 
 -- 35: a board of 1 to 64 valves
-unfoldable pub on_board : ℕ → spec-answer.Answer → spec-answer.Answer
+unfoldable pub on_board : ℕ → Answer → Answer
 on_board N a = elim (leb 1 N && leb N 64) [ true ↦ a | false ↦ refused 35 0 ]
 
 -- 36: a mask of eight bytes
-unfoldable pub eight_bytes : List ℕ → spec-answer.Answer → spec-answer.Answer
+unfoldable pub eight_bytes : List ℕ → Answer → Answer
 eight_bytes mask a = elim (eqb (length mask) 8) [ true ↦ a | false ↦ refused 36 0 ]
 
 -- 35: no map of the board; 28: longer than the buffer
-unfoldable pub of_map : ℕ → ℕ → Option ℕ → spec-answer.Answer
-of_map N room none = refused 35 0
-of_map N room (some m) = fitted room (ticket_text N m)
+unfoldable pub of_map : ℕ → ℕ → Option ℕ → Answer
+of_map N room None = refused 35 0
+of_map N room (Some m) = fitted room (ticket_text N m)
 
-unfoldable pub mask_answer : ℕ → List ℕ → ℕ → spec-answer.Answer
-mask_answer N mask room = on_board N (eight_bytes mask (of_map N room (board_map N (some (mask_valves mask)))))
+unfoldable pub mask_answer : ℕ → List ℕ → ℕ → Answer
+mask_answer N mask room = on_board N (eight_bytes mask (of_map N room (board_map N (Some (mask_valves mask)))))
 
-unfoldable pub list_answer : ℕ → List ℕ → ℕ → spec-answer.Answer
+unfoldable pub list_answer : ℕ → List ℕ → ℕ → Answer
 list_answer N list room = on_board N (of_map N room (board_map N (list_valves list)))
-
--- ---------------------------------------------------------------- the code's answer
-
-abbrev pub shown : Answer → List ℕ → spec-answer.Answer
-shown (Answer.Refused n l) buffer = refused n l
-shown (Answer.Accepted k) buffer = accepted (take k buffer)
-
--- the buffer has as many bytes as that
-abbrev pub Within : Answer → List ℕ → Type 0
-Within (Answer.Refused n l) buffer = Unit {0}
-Within (Answer.Accepted k) buffer = k ≤ length buffer
-
--- the answer is a, its length with it, and every byte of the buffer is settled
-pub record Answers (a : spec-answer.Answer) (buffer buffer' : List ℕ) (r : Answer) : Type 0 where
-  pub answer : shown r buffer' ≡ a
-  pub left : buffer' ≡ left_in a buffer
-  pub within : Within r buffer'

@@ -5,14 +5,14 @@
 
 ghost use Rattle.std.specs.Prelude.{length};
 ghost use Rattle.cases.specs.Cases.{Right};
-ghost use Rattle.valves.specs.Tickets.{Answers};
+ghost use Rattle.valves.specs.Shown.{Answers};
 ghost use Rattle.valves_tests.specs.Asked.{asked};
 
-use cases::Tally;
+use answers::{Numbered, Refused};
 use std::io::{self, Read};
-use valves::Answer;
+use valves::Refusal;
 
-fn ticket(kind: u64, n: u64, map: &[u8], buffer: &mut [u8]) -> Answer
+fn ticket(kind: u64, n: u64, map: &[u8], buffer: &mut [u8]) -> Result<usize, Refused<Refusal>>
     ensures { Answers (asked kind n map.now (length buffer.old)) buffer.old buffer.new result }
 {
     if kind == 0 {
@@ -26,8 +26,8 @@ fn holds(kind: u64, n: u64, map: &[u8], expected: &[u8], buffer: &mut [u8]) -> b
 {
     cases::fill(buffer);
     match ticket(kind, n, map, buffer) {
-        Answer::Refused(number, line) => cases::refused(number, line, expected, buffer),
-        Answer::Accepted(k) => cases::accepted(k, expected, buffer),
+        Ok(k) => cases::accepted(k, expected, buffer),
+        Err(e) => cases::refused(e.refusal.number(), e.line, expected, buffer),
     }
 }
 
@@ -51,38 +51,30 @@ fn holds_within(
 }
 
 // The next map, behind its head.
-fn replay<R: Read>(reader: &mut R, numbers: &[u64; 64]) -> bool {
-    let mut map = [0u8; 1024];
-    let mut expected = [0u8; 256];
-    let mut buffer = [0u8; 256];
-    let size = numbers[3] as usize;
-    let answer = numbers[4] as usize;
-    if !cases::read(reader, &mut map, size) {
-        return false;
+fn replay<R: Read>(reader: &mut R) -> Option<bool> {
+    let Ok(head) = cases::block_head::<5, R>(reader, 48)? else {
+        return Some(false);
+    };
+    let [kind, n, room, size, answer] = head;
+    let mut map = [0; 1024];
+    let mut expected = [0; 256];
+    let mut buffer = [0; 256];
+    let size = size as usize;
+    let answer = answer as usize;
+    if !cases::read(reader, &mut map, size) || !cases::read(reader, &mut expected, answer) {
+        return Some(false);
     }
-    if !cases::read(reader, &mut expected, answer) {
-        return false;
-    }
-    holds_within(
-        numbers[0],
-        numbers[1],
+    Some(holds_within(
+        kind,
+        n,
         cases::first(&map, size),
         cases::first(&expected, answer),
         &mut buffer,
-        numbers[2] as usize,
-    )
+        room as usize,
+    ))
 }
 
 fn main(rt: HostRuntime) -> io::Result<()> {
-    let mut reader = rt.stdin();
-    let mut numbers = [0u64; 64];
-    let mut t = Tally { ran: 0, failed: 0 };
-    while t.ran < 1000000 {
-        let h = cases::block_head(&mut reader, 48, 5, &mut numbers);
-        if h.over {
-            break;
-        }
-        t = cases::counted(t, h.right && replay(&mut reader, &numbers));
-    }
-    cases::print(&rt, t, b"maps")
+    let tally = cases::run(&mut rt.stdin(), replay);
+    tally.print(&rt, "maps")
 }

@@ -1,10 +1,7 @@
 -- The operation that a case names, by the definitions. Each group of 16 numbers names its operations in this order; any other number has none.
-use Rattle.std.specs.Prelude.{ℕ, ◌-◌, Bool, false, List, [], ◌∷◌, eqb, ltb, get_or}
-use Rattle.tables.specs.Tables.{pick}
+use Rattle.std.specs.Prelude.{ℕ, ◌-◌, Bool, false, Option, None, Some, List, [], ◌∷◌, ◌==◌, nat_lt, if◌then◌else◌, slice_index, slice_index_or}
 use Rattle.numerics.specs.Numerics as wasm
 use Rattle.numerics.specs.Functions.{unary_at, binary_at, widening_at, narrowing_at, quotient_at}
-use Rattle.numerics.specs.declared.arithmetic.Quotient.{Quotient}
-use Rattle.numerics.specs.declared.arithmetic.Quotient.TheVariants.{Number, Undefined}
 
 abbrev pub sums : ℕ → ℕ → ℕ → List ℕ
 sums x y z =
@@ -19,14 +16,14 @@ sums x y z =
     []
 
 unfoldable pub arithmetic_of : ℕ → ℕ → ℕ → ℕ → ℕ
-arithmetic_of k x y z = get_or (sums x y z) k 0
+arithmetic_of k x y z = slice_index (sums x y z) k
 
 -- 1 where there is no quotient
-abbrev pub traps : Quotient → Quotient
-traps (Number q) = Number 0
-traps Undefined = Number 1
+abbrev pub traps : Option ℕ → Option ℕ
+traps (Some q) = Some 0
+traps None = Some 1
 
-abbrev pub quotients : ℕ → ℕ → ℕ → List Quotient
+abbrev pub quotients : ℕ → ℕ → ℕ → List (Option ℕ)
 quotients x y z =
     quotient_at wasm.idiv_u x y z ∷
     quotient_at wasm.idiv_s x y z ∷
@@ -38,8 +35,8 @@ quotients x y z =
     traps (quotient_at wasm.irem_s x y z) ∷
     []
 
-unfoldable pub quotient_of : ℕ → ℕ → ℕ → ℕ → Quotient
-quotient_of k x y z = get_or (quotients x y z) k Undefined
+unfoldable pub quotient_of : ℕ → ℕ → ℕ → ℕ → Option ℕ
+quotient_of k x y z = slice_index_or (quotients x y z) k None
 
 abbrev pub words : ℕ → ℕ → ℕ → List ℕ
 words x y z =
@@ -58,7 +55,7 @@ words x y z =
     []
 
 unfoldable pub bits_of : ℕ → ℕ → ℕ → ℕ → ℕ
-bits_of k x y z = get_or (words x y z) k 0
+bits_of k x y z = slice_index (words x y z) k
 
 abbrev pub comparisons : ℕ → ℕ → ℕ → List ℕ
 comparisons x y z =
@@ -76,7 +73,7 @@ comparisons x y z =
     []
 
 unfoldable pub comparison_of : ℕ → ℕ → ℕ → ℕ → ℕ
-comparison_of k x y z = get_or (comparisons x y z) k 0
+comparison_of k x y z = slice_index (comparisons x y z) k
 
 abbrev pub conversions : ℕ → ℕ → ℕ → List ℕ
 conversions x y z =
@@ -86,16 +83,16 @@ conversions x y z =
     []
 
 unfoldable pub conversion_of : ℕ → ℕ → ℕ → ℕ → ℕ
-conversion_of k x y z = get_or (conversions x y z) k 0
+conversion_of k x y z = slice_index (conversions x y z) k
 
-abbrev pub answer_of : ℕ → ℕ → ℕ → ℕ → Quotient
+abbrev pub answer_of : ℕ → ℕ → ℕ → ℕ → Option ℕ
 answer_of op x y z =
-    pick (ltb op 16) (Number (arithmetic_of op x y z))
-    (pick (ltb op 32) (quotient_of (op - 16) x y z)
-    (pick (ltb op 48) (Number (bits_of (op - 32) x y z))
-    (pick (ltb op 64) (Number (comparison_of (op - 48) x y z))
-    (pick (ltb op 80) (Number (conversion_of (op - 64) x y z)) Undefined))))
+    if nat_lt op 16 then Some (arithmetic_of op x y z)
+    else (if nat_lt op 32 then quotient_of (op - 16) x y z
+    else (if nat_lt op 48 then Some (bits_of (op - 32) x y z)
+    else (if nat_lt op 64 then Some (comparison_of (op - 48) x y z)
+    else (if nat_lt op 80 then Some (conversion_of (op - 64) x y z) else None))))
 
-abbrev pub is : Quotient → ℕ → Bool
-is (Number q) r = eqb q r
-is Undefined r = false
+abbrev pub is : Option ℕ → ℕ → Bool
+is (Some q) r = q == r
+is None r = false

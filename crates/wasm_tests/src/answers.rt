@@ -1,11 +1,12 @@
-// The operation that a case names, computed by the proved function of that name.
+// The operation that a case names, computed by the proved function of that name. It stays a number: it is used in one match, and an enum
+// would be one more match of as many arms.
 ghost use Rattle.std.specs.Prelude.{◌≡◌};
 ghost use Rattle.wasm_tests.specs.Answers.{arithmetic_of, traps, quotient_of, bits_of, comparison_of, conversion_of, answer_of};
 
 use super::ops;
-use numerics::Quotient;
 
 // Sums, differences and products.
+#[tactic(auto, using(std::proofs::lemmas::List::get_or_past), unfolding(crate::specs::Answers::arithmetic_of))]
 fn arithmetic(op: u64, n: u64, a: u64, b: u64) -> u64
     ensures { result ≡ arithmetic_of op n a b }
 {
@@ -23,7 +24,8 @@ fn arithmetic(op: u64, n: u64, a: u64, b: u64) -> u64
 }
 
 // Quotients and remainders; an operation _TRAPS answers 1 where there is none.
-fn quotient(op: u64, n: u64, a: u64, b: u64) -> Quotient
+#[tactic(auto, using(std::proofs::lemmas::List::get_or_past), unfolding(crate::specs::Answers::quotient_of))]
+fn quotient(op: u64, n: u64, a: u64, b: u64) -> Option<u64>
     ensures { result ≡ quotient_of op n a b }
 {
     match op {
@@ -35,20 +37,18 @@ fn quotient(op: u64, n: u64, a: u64, b: u64) -> Quotient
         ops::IDIV_S_TRAPS => undefined(numerics::idiv_s(n, a, b)),
         ops::IREM_U_TRAPS => undefined(numerics::irem_u(n, a, b)),
         ops::IREM_S_TRAPS => undefined(numerics::irem_s(n, a, b)),
-        _ => Quotient::Undefined,
+        _ => None,
     }
 }
 
-fn undefined(q: Quotient) -> Quotient
+fn undefined(q: Option<u64>) -> Option<u64>
     ensures { result ≡ traps q }
 {
-    match q {
-        Quotient::Number(_) => Quotient::Number(0),
-        Quotient::Undefined => Quotient::Number(1),
-    }
+    Some(u64::from(q.is_none()))
 }
 
 // Logic, shifts and counts.
+#[tactic(auto, using(std::proofs::lemmas::List::get_or_past), unfolding(crate::specs::Answers::bits_of))]
 fn bits(op: u64, n: u64, a: u64, b: u64) -> u64
     ensures { result ≡ bits_of op n a b }
 {
@@ -70,6 +70,7 @@ fn bits(op: u64, n: u64, a: u64, b: u64) -> u64
 }
 
 // Tests and comparisons.
+#[tactic(auto, using(std::proofs::lemmas::List::get_or_past), unfolding(crate::specs::Answers::comparison_of))]
 fn comparison(op: u64, n: u64, a: u64, b: u64) -> u64
     ensures { result ≡ comparison_of op n a b }
 {
@@ -90,6 +91,7 @@ fn comparison(op: u64, n: u64, a: u64, b: u64) -> u64
 }
 
 // From width m to width n.
+#[tactic(auto, using(std::proofs::lemmas::List::get_or_past), unfolding(crate::specs::Answers::conversion_of))]
 fn conversion(op: u64, m: u64, n: u64, a: u64) -> u64
     ensures { result ≡ conversion_of op m n a }
 {
@@ -101,16 +103,16 @@ fn conversion(op: u64, m: u64, n: u64, a: u64) -> u64
     }
 }
 
-// Undefined also for a number that names no operation, so that the case fails.
-pub fn answer(op: u64, x: u64, y: u64, z: u64) -> Quotient
+// None also for a number that names no operation, so that the case fails.
+pub fn answer(op: u64, x: u64, y: u64, z: u64) -> Option<u64>
     ensures { result ≡ answer_of op x y z }
 {
     match op {
-        0..=15 => Quotient::Number(arithmetic(op, x, y, z)),
+        0..=15 => Some(arithmetic(op, x, y, z)),
         16..=31 => quotient(op - 16, x, y, z),
-        32..=47 => Quotient::Number(bits(op - 32, x, y, z)),
-        48..=63 => Quotient::Number(comparison(op - 48, x, y, z)),
-        64..=79 => Quotient::Number(conversion(op - 64, x, y, z)),
-        _ => Quotient::Undefined,
+        32..=47 => Some(bits(op - 32, x, y, z)),
+        48..=63 => Some(comparison(op - 48, x, y, z)),
+        64..=79 => Some(conversion(op - 64, x, y, z)),
+        _ => None,
     }
 }

@@ -6,7 +6,8 @@ ghost use Rattle.spec.specs.Answer.{answer};
 ghost use Rattle.compiler.specs.Lent.{Short, FewRows};
 ghost use Rattle.wesknuft.specs.Told.{TellsIn};
 
-use compiler::Tried;
+use answers::Numbered;
+use ticket::ReadError;
 
 // 1 where the ticket is accepted: then `size` is the listing's length; 0 where it is refused: then `number` and `line` are the refusal's; 2 where
 // the words lent are too few. What does not apply is 0.
@@ -26,19 +27,19 @@ pub fn wesknuft_lower_in(
     ensures { TellsIn (answer ticket.now (length buffer.old)) (Short ticket.now (length lists.old) (length narrowed.old) (length stack.old)) (FewRows (length rows.old)) buffer.old buffer.new result size.new number.new line.new }
 {
     match compiler::lower_in(ticket, buffer, rows, lists, stack, narrowed, code, store) {
-        Tried::Refused(n, l) => {
-            *size = 0;
-            *number = n;
-            *line = l;
-            0
-        }
-        Tried::Accepted(k) => {
-            *size = k;
+        Ok(end) => {
+            *size = end;
             *number = 0;
             *line = 0;
             1
         }
-        Tried::NoRoom => {
+        Err(ReadError::Refused(e)) => {
+            *size = 0;
+            *number = e.refusal.number();
+            *line = e.line;
+            0
+        }
+        Err(ReadError::NoRoom) => {
             *size = 0;
             *number = 0;
             *line = 0;

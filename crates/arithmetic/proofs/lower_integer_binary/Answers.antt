@@ -1,18 +1,65 @@
--- `arithmetic::lower_integer_binary` meets its contract: the operands' bytes, the left first, and then the operation.
-use borrow.Author.Rules.{rules}
+-- `arithmetic::lower_integer_binary` meets its contract: the operands' bytes, the left first, and then a new temporary.
+use Rattle.std.specs.Prelude.{◌≡◌, Ok}
+use Rattle.std.proofs.Common.{rules}
+use Rattle.answers.specs.declared.Refusal.{Refusal}
+use Rattle.spec.specs.Operands.{value_bytes}
+use Rattle.spec.specs.Arithmetic.{lower_integer_binary, binary_instructions}
+use Rattle.lir.specs.Abstract.{bytes_of}
+use Rattle.emission.specs.Does.{meets_done, meets_refused}
+use Rattle.emission.specs.Forms.{binary_form_of}
+use Rattle.tables.specs.Ticket.{ticket_of}
 use Rattle.reads.specs.Reading.{at_of}
-use Rattle.steps.proofs.Laws.{value_stops}
-use Rattle.arithmetic.proofs.Laws.{binary_no_left, binary_no_right, binary_meets}
+use Rattle.steps.proofs.Asks.{told_err, none_stops, some_meets}
+use Rattle.steps.proofs.Temporaries.{new_stops}
+use Rattle.arithmetic.proofs.Laws.{filled_meets, filled_stops, room_fill, room_filled}
 use Rattle.arithmetic.proofs.lower_integer_binary.Goals as goal
 
-pub operate-requires : goal.operate-requires
-operate-requires c = let x = rw c.in-Bytes.is at c.value_bytes.ensures.small in let y = rw c.in-Bytes-value_bytes.is at c.value_bytes-in-Bytes.ensures.small in (c.requires.0, search rules, c.requires.3)
+pub returns-in_err-left : goal.returns-in_err-left
+unfolding lower_integer_binary value_bytes
+returns-in_err-left c =
+    none_stops bytes_of c.value_bytes.result _ _ (at_of c.args.h) Refusal.UnsupportedExpression c.value_bytes.ensures.bytes c.in_err-left.ensures.value c.refuse.ensures c.from_residual.ensures.1
 
-pub returns-in-Absent : goal.returns-in-Absent
-returns-in-Absent c = λ m. value_stops (binary_no_left _ _ _ _ _ (at_of c.args.h) _ (rw c.in-Absent.is at c.value_bytes.ensures.is))
+pub returns-in_err-right : goal.returns-in_err-right
+unfolding lower_integer_binary value_bytes
+returns-in_err-right c =
+    some_meets bytes_of c.value_bytes.result _ _ _ (at_of c.args.h) c.value_bytes.ensures.bytes c.in_ok-left.ensures.value
+    (none_stops bytes_of c.value_bytes-2.result _ _ (at_of c.args.h) Refusal.UnsupportedExpression c.value_bytes-2.ensures.bytes c.in_err-right.ensures.value c.refuse-2.ensures c.from_residual-in_err-right.ensures.1)
 
-pub returns-in-Absent-value_bytes : goal.returns-in-Absent-value_bytes
-returns-in-Absent-value_bytes c = λ m. value_stops (binary_no_right _ _ _ _ _ (at_of c.args.h) _ (rw c.in-Bytes.is at c.value_bytes.ensures.is) (rw c.in-Absent-value_bytes.is at c.value_bytes-in-Bytes.ensures.is))
+pub returns-in_err-to : goal.returns-in_err-to
+unfolding lower_integer_binary value_bytes
+returns-in_err-to c =
+    let T = ticket_of c.args.tables.now in
+    some_meets bytes_of c.value_bytes.result _ _ _ (at_of c.args.h) c.value_bytes.ensures.bytes c.in_ok-left.ensures.value
+    (some_meets bytes_of c.value_bytes-2.result _ _ _ (at_of c.args.h) c.value_bytes-2.ensures.bytes c.in_ok-right.ensures.value
+    (new_stops T (at_of c.args.h) _ c.in_err-to.ensures c.from_residual-in_err-to.ensures.1))
 
-pub returns-in-Bytes-value_bytes : goal.returns-in-Bytes-value_bytes
-returns-in-Bytes-value_bytes c = λ m. binary_meets _ _ _ _ _ (at_of c.args.h) c.binary_form.result _ _ c.binary_form.ensures (rw c.in-Bytes.is at c.value_bytes.ensures.is) (rw c.in-Bytes-value_bytes.is at c.value_bytes-in-Bytes.ensures.is) (c.operate.ensures m)
+pub binary_instructions-requires : goal.binary_instructions-requires
+binary_instructions-requires c = let T = ticket_of c.args.tables.now in room_fill T c.args.tables.now.readable (at_of c.args.h) c.requires.2 c.in_ok-to.ensures
+
+pub returns-in_err-map_err : goal.returns-in_err-map_err
+unfolding lower_integer_binary value_bytes
+returns-in_err-map_err c =
+    let T = ticket_of c.args.tables.now in
+    let w = told_err _ c.binary_instructions.result _ c.in_err-map_err.ensures.cases in
+    let made = w.1.1 in
+    let e : c.in_err-map_err.field-0.0 ≡ record { refusal = w.0; line = c.args.h.line } = search rules in
+    some_meets bytes_of c.value_bytes.result _ _ _ (at_of c.args.h) c.value_bytes.ensures.bytes c.in_ok-left.ensures.value
+    (some_meets bytes_of c.value_bytes-2.result _ _ _ (at_of c.args.h) c.value_bytes-2.ensures.bytes c.in_ok-right.ensures.value
+    (rw c.binary_form.ensures (filled_stops T (at_of c.args.h) c.requires.2.node c.in_ok-to.ensures (λ ds. binary_instructions (ticket_of c.args.tables.now) (binary_form_of c.binary_form.result) c.args.h.ty ds (bytes_of c.in_ok-left.left) (bytes_of c.in_ok-right.right)) (meets_refused (c.binary_instructions.ensures T c.args.h.ty c.integer_width-width.ensures) w.1.0).0 e c.from_residual-in_err-map_err.ensures.1)))
+
+pub masked-requires : goal.masked-requires
+masked-requires c =
+    let T = ticket_of c.args.tables.now in
+    let e : c.binary_instructions.result ≡ Ok tt = search rules in (
+      c.in_ok-to.ensures.shown.count,
+      room_filled T c.args.tables.now.readable (at_of c.args.h) c.requires.2 c.in_ok-to.ensures (meets_done (c.binary_instructions.ensures T c.args.h.ty c.integer_width-width.ensures) e),
+    )
+
+pub returns : goal.returns
+unfolding lower_integer_binary value_bytes
+returns c =
+    let T = ticket_of c.args.tables.now in
+    let e : c.binary_instructions.result ≡ Ok tt = search rules in
+    some_meets bytes_of c.value_bytes.result _ _ _ (at_of c.args.h) c.value_bytes.ensures.bytes c.in_ok-left.ensures.value
+    (some_meets bytes_of c.value_bytes-2.result _ _ _ (at_of c.args.h) c.value_bytes-2.ensures.bytes c.in_ok-right.ensures.value
+    (rw c.binary_form.ensures (filled_meets T (at_of c.args.h) c.requires.2.node c.in_ok-to.ensures (λ ds. binary_instructions (ticket_of c.args.tables.now) (binary_form_of c.binary_form.result) c.args.h.ty ds (bytes_of c.in_ok-left.left) (bytes_of c.in_ok-right.right)) (meets_done (c.binary_instructions.ensures T c.args.h.ty c.integer_width-width.ensures) e) c.masked.ensures)))

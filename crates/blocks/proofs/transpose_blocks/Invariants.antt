@@ -1,12 +1,8 @@
+-- The bytes of the first t squares are turned, all others as before.
+use Rattle.blocks.specs.Shown.{turned}
 use Rattle.blocks.proofs.Squares.{Squares}
-use Rattle.blocks.proofs.Directions.{of_valves}
-use lib.ListN.{length}
-use Prim.Native.Nat.{◌-◌, ◌/◌}
-use Rattle.blocks.specs.Blocks.{transposed}
+use Rattle.blocks.proofs.Directions.{square_of}
 use Rattle.blocks.proofs.transpose_blocks.Given as goal
 
 abbrev pub invariant-loop-t : goal.invariant-loop-t
-invariant-loop-t l = Squares of_valves (transposed l.input) l.initial.output l.t l.output
-
-abbrev pub decreases-loop-t : goal.decreases-loop-t
-decreases-loop-t l = length l.input / 8 - l.t
+invariant-loop-t l = Squares (square_of l.way) (turned l.way l.input) l.initial.output l.t l.output

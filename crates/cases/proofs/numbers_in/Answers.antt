@@ -1,9 +1,10 @@
--- As many numbers as were asked for, or not.
-use Rattle.cases.proofs.Laws.{reads_numbers, reads_none}
+-- A number more is one more of the line's.
+use Rattle.std.proofs.Common.{arith}
+use Rattle.cases.proofs.Laws.{heading_none, heading_more}
 use Rattle.cases.proofs.numbers_in.Goals as goal
 
-pub returns-in-Numbers : goal.returns-in-Numbers
-returns-in-Numbers c = reads_numbers c.numbers.ensures _ _ c.in-Numbers.is
+pub loop-number-init : goal.loop-number-init
+loop-number-init g c = heading_none _ _
 
-pub returns-in-Broken : goal.returns-in-Broken
-returns-in-Broken c = reads_none c.numbers.ensures _ c.in-Broken.is
+pub loop-number-preserved : goal.loop-number-preserved
+loop-number-preserved g c = heading_more c.loop-number.invariant c.in_ok-value.value c.in_ok-value.next (omega arith) c.in_ok-value.ensures

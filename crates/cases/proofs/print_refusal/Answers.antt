@@ -1,7 +1,9 @@
 -- Five pieces, and 64 bytes are enough for them.
-use borrow.Author.Rules.{rules}
-use Rattle.cases.proofs.Laws.{refusal_printed}
+use Rattle.std.proofs.Common.{rules}
+use Rattle.cases.proofs.Laws.{printed}
 use Rattle.cases.proofs.print_refusal.Goals as goal
 
 pub returns : goal.returns
-returns c = refusal_printed _ _ (search rules) (search rules) c.requires c.print_bytes-a.ensures c.print_number-b.ensures c.put-c.ensures c.print_number-d.ensures c.put.ensures
+returns c =
+    let p = printed _ _ (search rules) (search rules) (rw c.new-to.ensures.buf c.requires) c.new-to.ensures.at c.bytes.ensures c.number.ensures c.put.ensures c.number-2.ensures c.put-2.ensures in
+    search rules

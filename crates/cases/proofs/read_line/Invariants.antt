@@ -1,9 +1,7 @@
--- The line grows by a byte a turn, inside the slice.
-use Rattle.std.proofs.Common.{◌-◌, ◌≤◌, length}
+-- The bytes given so far stand in front of the line.
+use Rattle.std.proofs.Common.{take}
+use Rattle.std.specs.Io.KnownBytes.{Consumes}
 use Rattle.cases.proofs.read_line.Given as goal
 
 abbrev pub invariant-loop-n : goal.invariant-loop-n
-invariant-loop-n g l = l.n ≤ length l.line
-
-abbrev pub decreases-loop-n : goal.decreases-loop-n
-decreases-loop-n g l = length l.line - l.n
+invariant-loop-n g l = Consumes (g.R.Read.remaining l.initial.reader) (g.R.Read.remaining l.reader) (take l.n l.line)

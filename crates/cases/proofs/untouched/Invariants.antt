@@ -1,11 +1,7 @@
-use Prim.Native.Nat.{◌-◌}
-use mathlib.Core.Path.{◌≡◌}
-use lib.ListN.{length}
+-- What is passed is as it was filled.
+use Rattle.std.proofs.Common.{◌≡◌}
 use Rattle.cases.specs.Cases.{kept}
 use Rattle.cases.proofs.untouched.Given as goal
 
 abbrev pub invariant-loop-i : goal.invariant-loop-i
 invariant-loop-i l = kept l.buffer l.from ≡ kept l.buffer l.i
-
-abbrev pub decreases-loop-i : goal.decreases-loop-i
-decreases-loop-i l = length l.buffer - l.i

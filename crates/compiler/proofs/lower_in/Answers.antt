@@ -6,7 +6,7 @@ use Rattle.compiler.proofs.Laws.{answer_unread, text_too_long, tries_for, unread
 use Rattle.compiler.proofs.lower_in.Goals as goal
 
 pub returns-then-ticket-gt-TEXT_LIMIT : goal.returns-then-ticket-gt-TEXT_LIMIT
-returns-then-ticket-gt-TEXT_LIMIT c = let a = c.args in let e = text_too_long a.ticket.now c.if-ticket-gt-TEXT_LIMIT.true in record { shown = ((λ w. ⊎_elim (λ x. omega (arith, x.0, c.if-ticket-gt-TEXT_LIMIT.true)) (unread_few e) w), answer_unread a.ticket.now _ _ 1 0 e) }
+returns-then-ticket-gt-TEXT_LIMIT c = let a = c.args in let e = text_too_long a.ticket.now c.if-ticket-gt-TEXT_LIMIT.true in record { shown = ((λ w. ⊎_elim (λ x. omega (arith, x.0, c.if-ticket-gt-TEXT_LIMIT.true)) (unread_few e) w), answer_unread a.ticket.now _ _ _ e) }
 
 pub returns-then-lists-ticket : goal.returns-then-lists-ticket
 returns-then-lists-ticket c = record { shown = (inr (inl (omega (arith, c.if-ticket-gt-TEXT_LIMIT.false), omega (arith, c.if-lists-ticket.true))), refl) }

@@ -1,12 +1,29 @@
 -- `conversions::boolean_to_integer` meets its contract: the bit in a new temporary, or the refusal.
+use Rattle.answers.specs.declared.Refusal.{Refusal}
+use Rattle.spec.specs.Operands.{value_bit}
+use Rattle.spec.specs.Conversions.{boolean_to_integer}
 use Rattle.reads.specs.Reading.{at_of}
-use Rattle.steps.proofs.Pointers.{meets_as}
-use Rattle.steps.proofs.Laws.{value_stops}
-use Rattle.conversions.proofs.Laws.{flag_no_bit, flag_behind}
+use Rattle.steps.proofs.Asks.{none_stops, some_meets}
+use Rattle.conversions.proofs.Filled.{bits_few, filled_meets, filled_stops, room_new, room_read}
 use Rattle.conversions.proofs.boolean_to_integer.Goals as goal
 
-pub returns-in-Absent : goal.returns-in-Absent
-returns-in-Absent c = λ n. value_stops (flag_no_bit _ _ _ (at_of c.args.h) _ (rw c.in-Absent.is at c.value_bit.ensures.is))
+pub bit_to_bytes-requires : goal.bit_to_bytes-requires
+bit_to_bytes-requires c = room_new c.args.tables.now.readable c.requires c.in_ok-to.ensures
 
-pub returns-in-Bit : goal.returns-in-Bit
-returns-in-Bit c = λ n. meets_as (flag_behind _ _ _ (at_of c.args.h) _ (rw c.in-Bit.is at c.value_bit.ensures.is)) (c.flagged_new.ensures n)
+pub read_temporary-requires : goal.read_temporary-requires
+read_temporary-requires c = room_read c.args.tables.now.readable c.requires c.in_ok-to.ensures c.bit_to_bytes.ensures (bits_few c.in_ok-to.to c.in_ok-b.b)
+
+pub returns-in_err-b : goal.returns-in_err-b
+unfolding boolean_to_integer value_bit
+returns-in_err-b c = none_stops _ _ _ _ (at_of c.args.h) Refusal.UnsupportedExpression c.value_bit.ensures c.in_err-b.ensures.value c.refuse.ensures c.from_residual.ensures.1
+
+pub returns-in_err-to : goal.returns-in_err-to
+unfolding boolean_to_integer value_bit
+returns-in_err-to c =
+    some_meets _ _ _ _ _ (at_of c.args.h) c.value_bit.ensures c.in_ok-b.ensures.value (filled_stops _ _ c.in_err-to.ensures c.from_residual-in_err-to.ensures.1)
+
+pub returns : goal.returns
+unfolding boolean_to_integer value_bit
+returns c =
+    some_meets _ _ _ _ _ (at_of c.args.h) c.value_bit.ensures c.in_ok-b.ensures.value
+    (filled_meets _ _ c.requires.node c.in_ok-to.ensures c.bit_to_bytes.ensures c.read_temporary.ensures)

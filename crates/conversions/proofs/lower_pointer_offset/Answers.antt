@@ -1,18 +1,37 @@
--- `conversions::lower_pointer_offset` meets its contract: the base's bytes, then the offset's.
+-- `conversions::lower_pointer_offset` meets its contract: the base's bytes, then the offset's, then a pointer, a carry, and two sums.
+use Rattle.std.proofs.Common.{refl, arith}
+use Rattle.answers.specs.declared.Refusal.{Refusal}
+use Rattle.spec.specs.Operands.{value_bytes}
+use Rattle.spec.specs.Select.{lower_pointer_offset}
+use Rattle.lir.specs.Abstract.{bytes_of}
+use Rattle.values.specs.Left.{counters_in, stops}
 use Rattle.reads.specs.Reading.{at_of}
-use Rattle.steps.proofs.Pointers.{meets_as}
-use Rattle.steps.proofs.Laws.{value_stops}
-use Rattle.conversions.proofs.Pointers.{offset_no_base, offset_no_offset, offset_behind}
+use Rattle.steps.proofs.Asks.{none_stops, some_meets}
+use Rattle.conversions.proofs.Pointers.{offset_short, offset_meets}
 use Rattle.conversions.proofs.lower_pointer_offset.Goals as goal
 
-pub offset_bytes-requires : goal.offset_bytes-requires
-offset_bytes-requires c = (rw c.in-Bytes.is at c.value_bytes.ensures.small, rw c.in-Bytes-value_bytes.is at c.value_bytes-in-Bytes.ensures.small, c.requires.2)
+pub returns-in_err-base : goal.returns-in_err-base
+unfolding lower_pointer_offset value_bytes
+returns-in_err-base c = λ T R nd. none_stops _ _ _ _ (at_of c.args.h) Refusal.UnsupportedExpression c.value_bytes.ensures.bytes c.in_err-base.ensures.value c.refuse.ensures c.from_residual.ensures.1
 
-pub returns-in-Absent : goal.returns-in-Absent
-returns-in-Absent c = λ T n stack R nd. value_stops (offset_no_base _ _ _ (at_of c.args.h) _ (rw c.in-Absent.is at c.value_bytes.ensures.is))
+pub returns-in_err-offset : goal.returns-in_err-offset
+unfolding lower_pointer_offset value_bytes
+returns-in_err-offset c =
+    λ T R nd. some_meets _ _ _ _ _ (at_of c.args.h) c.value_bytes.ensures.bytes c.in_ok-base.ensures.value
+    (none_stops _ _ _ _ (at_of c.args.h) Refusal.UnsupportedExpression c.value_bytes-2.ensures.bytes c.in_err-offset.ensures.value c.refuse-2.ensures c.from_residual-in_err-offset.ensures.1)
 
-pub returns-in-Absent-value_bytes : goal.returns-in-Absent-value_bytes
-returns-in-Absent-value_bytes c = λ T n stack R nd. value_stops (offset_no_offset _ _ _ (at_of c.args.h) _ (rw c.in-Bytes.is at c.value_bytes.ensures.is) (rw c.in-Absent-value_bytes.is at c.value_bytes-in-Bytes.ensures.is))
+pub returns-then-base-lt2 : goal.returns-then-base-lt2
+unfolding lower_pointer_offset value_bytes
+returns-then-base-lt2 c =
+    λ T R nd. some_meets _ _ _ _ _ (at_of c.args.h) c.value_bytes.ensures.bytes c.in_ok-base.ensures.value
+    (some_meets _ _ _ _ _ (at_of c.args.h) c.value_bytes-2.ensures.bytes c.in_ok-offset.ensures.value
+    (rw (offset_short T c.in_ok-base.base (bytes_of c.in_ok-offset.offset) (at_of c.args.h) (counters_in c.args.l.now) c.if-base-lt2.true, c.refuse-then-base-lt2.ensures) (stops refl)))
 
-pub returns-in-Bytes-value_bytes : goal.returns-in-Bytes-value_bytes
-returns-in-Bytes-value_bytes c = λ T n stack R nd. meets_as (offset_behind _ _ _ (at_of c.args.h) _ (rw c.in-Bytes.is at c.value_bytes.ensures.is) (rw c.in-Bytes-value_bytes.is at c.value_bytes-in-Bytes.ensures.is)) (c.offset_bytes.ensures T n stack R nd)
+pub returns : goal.returns
+unfolding lower_pointer_offset value_bytes
+returns c =
+    λ T R nd. some_meets _ _ _ _ _ (at_of c.args.h) c.value_bytes.ensures.bytes c.in_ok-base.ensures.value
+    (some_meets _ _ _ _ _ (at_of c.args.h) c.value_bytes-2.ensures.bytes c.in_ok-offset.ensures.value
+    (rw c.pointer_value.ensures
+    (offset_meets T R c.allocate_pointer-storage.result c.allocate_carry-carry.result c.in_ok-base.base c.in_ok-offset.offset (at_of c.args.h) nd (omega (arith, c.if-base-lt2.false))
+    c.resize.ensures c.resize-2.ensures c.allocate_pointer-storage.ensures c.allocate_carry-carry.ensures c.add_bytes.ensures)))

@@ -1,15 +1,33 @@
 -- `conversions::normalized_bytes` meets its contract: the bytes themselves, or a masked copy.
-use native.Mathlib.Omega.{arith}
-use Rattle.reads.specs.Reading.{at_of}
-use mathlib.Core.Path.{refl}
+use Rattle.std.proofs.Common.{refl, ◌∙◌}
 use Rattle.spec.specs.Lir.{value, bytes_value}
+use Rattle.lir.specs.Abstract.{bytes_of}
+use Rattle.tables.specs.Ticket.{ticket_of}
+use Rattle.reads.specs.Reading.{at_of}
 use Rattle.reads.proofs.Laws.{leaf_meets}
-use Rattle.steps.proofs.Pointers.{meets_as}
-use Rattle.conversions.proofs.Laws.{normal_all, normal_odd}
+use Rattle.steps.specs.Temporaries.{masked}
+use Rattle.conversions.proofs.Filled.{copies, copies_few, filled_meets, filled_stops, room_new, room_masked, normal_all, normal_odd}
 use Rattle.conversions.proofs.normalized_bytes.Goals as goal
 
 pub returns-then-odd_bits-eq0 : goal.returns-then-odd_bits-eq0
-returns-then-odd_bits-eq0 c = λ n. meets_as (normal_all _ _ _ (at_of c.args.h) _ c.odd_bits.ensures.0 c.if-odd_bits-eq0.true) (leaf_meets _ (value _ (bytes_value _)) (record { code = omega arith; store = omega arith; at = omega (arith, c.well_formed.1.1.1.1.1.1.1.0); stored = omega (arith, c.well_formed.1.1.1.1.1.1.1.0) }) refl c.requires.1 refl refl)
+returns-then-odd_bits-eq0 c =
+    let a = c.args in
+    rw (normal_all (ticket_of a.tables.now) a.h.ty (bytes_of a.b) (at_of a.h) _ (c.odd_bits.ensures.is ∙ c.if-odd_bits-eq0.true)) (leaf_meets a.l.now _ (value a.h.ty (bytes_value (bytes_of a.b))) refl c.requires.0 refl)
+
+pub copy_bytes-requires : goal.copy_bytes-requires
+copy_bytes-requires c = (c.requires.0, room_new c.args.tables.now.readable c.requires.1 c.in_ok-to.ensures)
+
+pub masked-requires : goal.masked-requires
+masked-requires c = (c.in_ok-to.ensures.shown.count, room_masked c.args.tables.now.readable c.requires.1 c.in_ok-to.ensures c.copy_bytes.ensures (copies_few c.in_ok-to.to c.args.b))
+
+pub returns-in_err-to : goal.returns-in_err-to
+returns-in_err-to c =
+    let a = c.args in
+    rw (normal_odd (ticket_of a.tables.now) a.h.ty (bytes_of a.b) (at_of a.h) _ a.tables.now.readable c.odd_bits.ensures.is c.if-odd_bits-eq0.false)
+    (filled_stops (copies (bytes_of a.b)) (masked (ticket_of a.tables.now)) c.in_err-to.ensures c.from_residual.ensures.1)
 
 pub returns : goal.returns
-returns c = λ n. meets_as (normal_odd _ _ _ (at_of c.args.h) _ c.odd_bits.ensures.0 c.if-odd_bits-eq0.false) (c.copied_new.ensures n)
+returns c =
+    let a = c.args in
+    rw (normal_odd (ticket_of a.tables.now) a.h.ty (bytes_of a.b) (at_of a.h) _ a.tables.now.readable c.odd_bits.ensures.is c.if-odd_bits-eq0.false)
+    (filled_meets (copies (bytes_of a.b)) (masked (ticket_of a.tables.now)) c.requires.1.node c.in_ok-to.ensures c.copy_bytes.ensures c.masked.ensures)

@@ -1,18 +1,36 @@
 -- `conversions::sign_extended` meets its contract: the width, then the bytes, then the temporary.
+use Rattle.answers.specs.declared.Refusal.{Refusal}
+use Rattle.spec.specs.Operands.{value_bytes}
+use Rattle.spec.specs.Allocation.{integer_width}
+use Rattle.spec.specs.Conversions.{sign_extended}
+use Rattle.lir.specs.Abstract.{bytes_of}
+use Rattle.tables.specs.Ticket.{ticket_of}
 use Rattle.reads.specs.Reading.{at_of}
-use Rattle.steps.proofs.Pointers.{meets_as}
-use Rattle.steps.proofs.Laws.{wide, value_stops}
-use Rattle.conversions.proofs.Laws.{extend_no_width, extend_no_bytes, extend_behind}
+use Rattle.steps.specs.Temporaries.{masked}
+use Rattle.steps.proofs.Asks.{none_stops, some_meets}
+use Rattle.steps.proofs.Laws.{wide}
+use Rattle.conversions.proofs.Filled.{extends, filled_meets, filled_stops}
 use Rattle.conversions.proofs.sign_extended.Goals as goal
 
-pub extended_new-requires : goal.extended_new-requires
-extended_new-requires c = (c.requires.0, rw c.in-Bytes.is at c.value_bytes.ensures.small, c.requires.2)
+pub returns-in_err-width : goal.returns-in_err-width
+unfolding sign_extended integer_width
+returns-in_err-width c = none_stops _ _ _ _ (at_of c.args.h) Refusal.UnsupportedType (wide c.args.v c.integer_width.ensures) c.in_err-width.ensures.value c.refuse.ensures c.from_residual.ensures.1
 
-pub returns-in-Absent : goal.returns-in-Absent
-returns-in-Absent c = λ n. value_stops (extend_no_width _ _ _ (at_of c.args.h) _ (wide c.args.v (rw c.in-Absent.is at c.width.ensures)))
+pub returns-in_err-b : goal.returns-in_err-b
+unfolding sign_extended integer_width value_bytes
+returns-in_err-b c =
+    some_meets _ _ _ _ _ (at_of c.args.h) (wide c.args.v c.integer_width.ensures) c.in_ok-width.ensures.value
+    (none_stops _ _ _ _ (at_of c.args.h) Refusal.UnsupportedExpression c.value_bytes.ensures.bytes c.in_err-b.ensures.value c.refuse-2.ensures c.from_residual-in_err-b.ensures.1)
 
-pub returns-in-Absent-value_bytes : goal.returns-in-Absent-value_bytes
-returns-in-Absent-value_bytes c = λ n. value_stops (extend_no_bytes _ _ _ (at_of c.args.h) _ (wide c.args.v (rw c.in-Found.is at c.width.ensures)) (rw c.in-Absent-value_bytes.is at c.value_bytes.ensures.is))
+pub returns-in_err-to : goal.returns-in_err-to
+unfolding sign_extended integer_width value_bytes masked
+returns-in_err-to c =
+    some_meets _ _ _ _ _ (at_of c.args.h) (wide c.args.v c.integer_width.ensures) c.in_ok-width.ensures.value
+    (some_meets _ _ _ _ _ (at_of c.args.h) c.value_bytes.ensures.bytes c.in_ok-b.ensures.value (filled_stops (extends c.in_ok-width.width (bytes_of c.in_ok-b.b)) (masked (ticket_of c.args.tables.now)) c.in_err-to.ensures c.from_residual-in_err-to.ensures.1))
 
-pub returns-in-Bytes : goal.returns-in-Bytes
-returns-in-Bytes c = λ n. meets_as (extend_behind _ _ _ (at_of c.args.h) _ (wide c.args.v (rw c.in-Found.is at c.width.ensures)) (rw c.in-Bytes.is at c.value_bytes.ensures.is)) (c.extended_new.ensures n)
+pub returns : goal.returns
+unfolding sign_extended integer_width value_bytes masked
+returns c =
+    some_meets _ _ _ _ _ (at_of c.args.h) (wide c.args.v c.integer_width.ensures) c.in_ok-width.ensures.value
+    (some_meets _ _ _ _ _ (at_of c.args.h) c.value_bytes.ensures.bytes c.in_ok-b.ensures.value
+    (filled_meets (extends c.in_ok-width.width (bytes_of c.in_ok-b.b)) (masked (ticket_of c.args.tables.now)) c.requires.1.node c.in_ok-to.ensures c.sign_extend.ensures c.masked.ensures))

@@ -3,8 +3,8 @@ use lib.ListN.{length}
 use Rattle.fields.proofs.Lines.{Gone}
 use Rattle.fields.proofs.numbers.Given as goal
 
-abbrev pub invariant-loop-at : goal.invariant-loop-at
-invariant-loop-at l = Gone l.line l.initial.lists l.used l.initial.at l.lists l.n l.at
+abbrev pub invariant-loop-from : goal.invariant-loop-from
+invariant-loop-from l = Gone l.line l.initial.lists l.used l.at l.lists l.n l.from
 
-abbrev pub decreases-loop-at : goal.decreases-loop-at
-decreases-loop-at l = length l.line + 1 - l.n
+abbrev pub decreases-loop-from : goal.decreases-loop-from
+decreases-loop-from l = length l.line + 1 - l.n

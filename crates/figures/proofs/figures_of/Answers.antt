@@ -4,7 +4,7 @@ use Rattle.figures.proofs.Printing.{refuses}
 use Rattle.figures.proofs.figures_of.Goals as goal
 
 pub returns-then-c-eq0 : goal.returns-then-c-eq0
-returns-then-c-eq0 c = refuses _ _ 41 0 (none_counted _ _ c.if-c-eq0.true)
+returns-then-c-eq0 c = refuses _ _ _ (none_counted _ _ c.if-c-eq0.true)
 
 pub place-requires : goal.place-requires
 place-requires c = held_some _ c.requires c.if-c-eq0.false

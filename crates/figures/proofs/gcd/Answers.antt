@@ -1,15 +1,7 @@
 -- Euclid's algorithm: the invariant is that the greatest common divisor stays the same.
-use mathlib.Core.Path.{refl, sym, ◌∙◌}
-use native.Mathlib.Omega.{arith}
-use native.Mathlib.Nat.{mod-lt}
+use mathlib.Core.Path.{sym, ◌∙◌}
 use Rattle.figures.proofs.Lowest.{gcd_end, gcd_next}
 use Rattle.figures.proofs.gcd.Goals as goal
-
-pub loop-y-init : goal.loop-y-init
-loop-y-init c = refl
-
-pub loop-y-smaller : goal.loop-y-smaller
-loop-y-smaller c = mod-lt c.loop-y.x (omega arith)
 
 pub loop-y-preserved : goal.loop-y-preserved
 loop-y-preserved c = sym (gcd_next c.loop-y.x c.loop-y.y c.loop-y-test.true) ∙ c.loop-y.invariant

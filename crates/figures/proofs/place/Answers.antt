@@ -4,7 +4,7 @@ use Rattle.figures.proofs.Printing.{too_long, fits}
 use Rattle.figures.proofs.place.Goals as goal
 
 pub returns-then-buffer-end : goal.returns-then-buffer-end
-returns-then-buffer-end c = too_long _ _ _ c.print_columns-end.ensures.next (omega (arith, c.if-buffer-end.true))
+returns-then-buffer-end c = too_long _ _ _ c.write_columns-end.ensures.next (omega (arith, c.if-buffer-end.true))
 
 pub returns : goal.returns
-returns c = fits _ _ _ c.print_columns-end.ensures.next (omega (arith, c.if-buffer-end.false)) (omega arith) c.print_columns.ensures
+returns c = fits _ _ _ c.write_columns-end.ensures.next (omega (arith, c.if-buffer-end.false)) (omega arith) c.write_columns.ensures

@@ -1,5 +1,10 @@
-use mathlib.Core.Path.{◌∙◌}
+use mathlib.Core.Path.{refl}
+use native.Mathlib.Omega.{arith}
+use Rattle.line_forms.proofs.RuleLaws.{class_here, class_past}
 use Rattle.line_forms.proofs.class_at.Goals as goal
 
-pub returns : goal.returns
-returns c = c.class_of.ensures ∙ c.class_letter-c.ensures
+pub returns-in-Some : goal.returns-in-Some
+returns-in-Some c = let at = c.in-Some.ensures.lookup.3 in class_here _ _ _ c.rule_of-rule.ensures _ _ at.0 at.1
+
+pub returns-in-None : goal.returns-in-None
+returns-in-None c = class_past _ _ _ c.rule_of-rule.ensures _ _ _ (omega (arith, c.in-None.ensures.lookup)) c.unwrap_or.ensures refl

@@ -1,24 +1,20 @@
-use borrow.Author.Rules.{rules}
-use Rattle.line_forms.proofs.LineForms.{kinds}
+use mathlib.Core.Path.{refl}
+use Rattle.spec.specs.Text.{split, same}
+use Rattle.fields.specs.Fields.{position}
+use Rattle.line_forms.proofs.LineForms.{type_not, place_not}
+use Rattle.line_forms.proofs.Tries.{is_place, spans_right, all_tried}
 use Rattle.line_forms.proofs.form_of.Goals as goal
 
-pub returns-in-0 : goal.returns-in-0
-returns-in-0 c = search (kinds, rules)
+pub word-requires : goal.word-requires
+unfolding spans_right is_place position split same
+word-requires c = all_tried _ refl
 
-pub returns-in-1 : goal.returns-in-1
-returns-in-1 c = search (kinds, rules)
+pub word-requires-in-Places : goal.word-requires-in-Places
+unfolding spans_right is_place position split same
+word-requires-in-Places c = all_tried _ refl
 
-pub returns-in-2 : goal.returns-in-2
-returns-in-2 c = search (kinds, rules)
+pub returns-in_err-w-in-Types : goal.returns-in_err-w-in-Types
+returns-in_err-w-in-Types c = rw c.from_residual.ensures (type_not _ _ _ _ _ c.in-Types.is c.in_err-w-in-Types.ensures)
 
-pub returns-in-3 : goal.returns-in-3
-returns-in-3 c = search (kinds, rules)
-
-pub returns-in-4 : goal.returns-in-4
-returns-in-4 c = search (kinds, rules)
-
-pub returns-in-5 : goal.returns-in-5
-returns-in-5 c = search (kinds, rules)
-
-pub returns-in_default : goal.returns-in_default
-returns-in_default c = search (kinds, rules)
+pub returns-in_err-w-in-Places : goal.returns-in_err-w-in-Places
+returns-in_err-w-in-Places c = rw c.from_residual-in_err-w-in-Places.ensures (place_not _ _ _ _ _ c.in-Places.is c.in_err-w-in-Places.ensures)

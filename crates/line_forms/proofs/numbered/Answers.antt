@@ -1,16 +1,8 @@
-use borrow.Author.Rules.{rules}
-use native.Mathlib.Omega.{arith}
-use Rattle.line_forms.proofs.NumberLaws.{numbered_laws, numbers_half}
+use Rattle.line_forms.proofs.NumberLaws.{numbered_broken, numbered_not}
 use Rattle.line_forms.proofs.numbered.Goals as goal
 
-pub returns-in_default : goal.returns-in_default
-returns-in_default c = search (numbered_laws, rules)
+pub returns-in_err-count : goal.returns-in_err-count
+returns-in_err-count c = rw c.from_residual.ensures (numbered_broken _ _ _ _ _ _ _ _ c.in_err-count.ensures)
 
-pub overflow_add-count : goal.overflow_add-count
-overflow_add-count c = record { fits = omega (arith, numbers_half _ _ _ _ _ _ _ c.numbers.ensures c.in-Numbers.is) }
-
-pub returns-then-count_fits : goal.returns-then-count_fits
-returns-then-count_fits c = search (numbered_laws, rules)
-
-pub returns : goal.returns
-returns c = search (numbered_laws, rules)
+pub returns-else-count_fits : goal.returns-else-count_fits
+returns-else-count_fits c = numbered_not _ _ _ _ _ _ _ _ _ c.in_ok-count.ensures _ c.count_fits.ensures c.if-count_fits.false

@@ -1,9 +1,17 @@
 -- The bytes handed back, and the refusal.
-use Rattle.lines_tests.proofs.Laws.{gives_so, gives_not}
+use Rattle.lines_tests.proofs.Laws.{bytes_are, number_ok, number_err}
 use Rattle.lines_tests.proofs.handed.Goals as goal
 
-pub returns-then-same : goal.returns-then-same
-returns-then-same c = gives_so c.storage_line-got.ensures c.same.ensures c.if-same.true c.equal.ensures
+pub returns-then-refusal-eq0 : goal.returns-then-refusal-eq0
+returns-then-refusal-eq0 c =
+    record {
+      bytes_are = λ t. bytes_are _ _ _ _ _ _ c.storage_part.ensures c.same.ensures c.if-not-same.false;
+      number_is = λ t. number_ok _ _ _ _ _ c.in-Ok.ensures c.if-refusal-eq0.true;
+    }
 
-pub returns-else-same : goal.returns-else-same
-returns-else-same c = gives_not c.if-same.false
+pub returns-in-Err : goal.returns-in-Err
+returns-in-Err c =
+    record {
+      bytes_are = λ t. bytes_are _ _ _ _ _ _ c.storage_part.ensures c.same.ensures c.if-not-same.false;
+      number_is = λ t. number_err _ _ _ _ _ _ _ c.in-Err.ensures c.number.ensures c.equal.ensures t;
+    }

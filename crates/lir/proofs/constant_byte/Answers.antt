@@ -1,15 +1,18 @@
--- The invariant: what is left is n divided by 256 once a turn.
-use mathlib.Core.Path.{◌≡◌, sym}
-use native.Mathlib.Nat.{div-one, div-div-eq-div-mul, pow-suc}
-use native.Mathlib.Numerals.{add-one}
-use native.Mathlib.Omega.{arith}
+-- A shift by eight bits is a division by 256; none of the eight bytes of a number is behind the eighth.
+use Rattle.std.proofs.Common.{◌≡◌, ℕ, zero, suc, ◌+◌, ◌*◌, ◌/◌, ◌^◌, ◌<◌, ◌≤◌, refl, arith}
+use Rattle.std.proofs.Math.Nat.{pow-suc, pow-le-pow_right, div-eq_of_lt}
+use Rattle.std.proofs.lemmas.Nat.{pow-add}
 use Rattle.lir.proofs.constant_byte.Goals as goal
 
-pub loop-k-init : goal.loop-k-init
-loop-k-init c = (omega arith, sym (div-one c.args.n))
+bytes_bits : (i : ℕ) → 256 ^ i ≡ 2 ^ (8 * i)
+bytes_bits zero = refl
+bytes_bits (suc i) = let e : 8 * suc i ≡ 8 * i + 8 = omega arith in rw (pow-suc, e, pow-add, bytes_bits i)
 
-pub loop-k-preserved : goal.loop-k-preserved
-loop-k-preserved c = (omega arith, rw (c.loop-k.invariant.1, div-div-eq-div-mul, add-one, pow-suc))
+behind_last : (n i : ℕ) → n < 2 ^ 64 → 8 ≤ i → n / 256 ^ i ≡ 0
+behind_last n i h k = let g : 256 ^ 8 ≤ 256 ^ i = pow-le-pow_right (omega arith) k in div-eq_of_lt (omega arith)
 
-pub returns : goal.returns
-returns c = let e : c.loop-k.k ≡ c.args.i = omega arith in rw (← e, c.loop-k.invariant.1)
+pub returns-then-i-lt8 : goal.returns-then-i-lt8
+returns-then-i-lt8 c = rw (bytes_bits c.args.i)
+
+pub returns-else-i-lt8 : goal.returns-else-i-lt8
+returns-else-i-lt8 c = rw (behind_last c.args.n c.args.i (omega arith) c.if-i-lt8.false)

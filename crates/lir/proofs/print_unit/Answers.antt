@@ -1,8 +1,8 @@
--- The line by its parts.
-use Rattle.lir.specs.PutFields.{whole_line, others, field}
-use Rattle.spec.specs.Print.{value_line}
+-- The type, and what the value is.
+use Rattle.spec.specs.Text.{fields, line}
+use Rattle.lir.specs.Fields.{value_written}
 use Rattle.lir.proofs.print_unit.Goals as goal
 
 pub returns : goal.returns
-unfolding value_line
-returns c = whole_line c.print_bytes-p.ensures (others c.field_number-q.ensures (field c.print_bytes-t.ensures)) c.put.ensures
+unfolding fields line
+returns c = value_written _ _ _ c.print_fields.ensures c.bytes.ensures

@@ -2,8 +2,8 @@
 use Rattle.cases.proofs.Laws.{filled_length, right_refused, right_accepted}
 use Rattle.listing_tests.proofs.answered.Goals as goal
 
-pub returns-in-Refused : goal.returns-in-Refused
-returns-in-Refused c = rw (← filled_length c.fill.ensures) (right_refused c.refused.ensures (rw c.in-Refused.is at c.lower.ensures.answer))
+pub returns-in-Err : goal.returns-in-Err
+returns-in-Err c = rw (← filled_length c.fill.ensures) (right_refused (rw c.number.ensures at c.refused.ensures) (rw c.in-Err.is at c.lower.ensures.answer))
 
-pub returns-in-Accepted : goal.returns-in-Accepted
-returns-in-Accepted c = rw (← filled_length c.fill.ensures) (right_accepted c.accepted.ensures (rw c.in-Accepted.is at c.lower.ensures.answer))
+pub returns-in-Ok : goal.returns-in-Ok
+returns-in-Ok c = rw (← filled_length c.fill.ensures) (right_accepted c.accepted.ensures (rw c.in-Ok.is at c.lower.ensures.answer))

@@ -1,17 +1,27 @@
--- The invariant: what is printed and the lines of the marks that are left are the whole.
-use mathlib.Core.Path.{refl, ◌∙◌}
-use native.Mathlib.Omega.{arith}
-use Rattle.printing.proofs.Laws.{going_none, going_more, going_all, marks_all, marks_cons, marks_none}
+-- The lines of the marks so far are written.
+use Rattle.std.proofs.Common.{◌∙◌, inl, inr, refl, arith}
+use Rattle.printing.proofs.Laws.{marking_none, marking_more, marking_same, marking_all}
 use Rattle.printing.proofs.print_narrowed.Goals as goal
 
 pub loop-k-init : goal.loop-k-init
-loop-k-init c = (omega arith, rw (marks_all c.args.n c.args.narrowed.now) (going_none _ (omega arith) (omega arith)), refl)
+loop-k-init c =
+    let e = c.zip-k-items.ensures in
+    let a = c.args in
+    rw (c.into_iter-k-iterator.ensures.into_iter_gives, e.first, e.second.0) (refl, marking_none a.w.now a.n a.narrowed.now (omega arith) (omega (arith, c.type_inv.w)))
 
-pub loop-k-smaller : goal.loop-k-smaller
-loop-k-smaller c = let t = c.loop-k-test.true in omega arith
+pub loop-k-preserved-then-mark-ne0 : goal.loop-k-preserved-then-mark-ne0
+loop-k-preserved-then-mark-ne0 c =
+    let l = c.loop-k in
+    let s = c.in-Some.ensures.steps in
+    (s.0.0 ∙ l.invariant.0, rw s.0.1.2 (marking_more l.invariant.1 s.1 (omega (arith, s.0.1.0)) c.if-mark-ne0.true (rw s.0.1.1 at c.print_narrowed.ensures)))
 
 pub loop-k-preserved : goal.loop-k-preserved
-loop-k-preserved c = (omega (arith, c.loop-k-test.true), going_more _ c.loop-k.invariant.1 (marks_cons c.args.n c.loop-k.k c.args.narrowed.now c.loop-k-test.true) (rw c.word.ensures at c.print_mark-p.ensures), c.print_mark-p.auto.buf ∙ c.loop-k.invariant.2)
+loop-k-preserved c =
+    let l = c.loop-k in
+    let s = c.in-Some.ensures.steps in
+    (s.0.0 ∙ l.invariant.0, rw s.0.1.2 (marking_same l.invariant.1 s.1 (omega (arith, s.0.1.0)) c.if-mark-ne0.false))
 
 pub returns : goal.returns
-returns c = going_all c.loop-k.invariant.1 (marks_none c.args.n c.loop-k.k c.args.narrowed.now c.loop-k-test.false)
+returns c =
+    let l = c.loop-k in
+    elim c.in-None.ensures.steps [ inl p ↦ marking_all l.invariant.1 (inl (omega (arith, p.1))) | inr p ↦ marking_all l.invariant.1 (inr p.1.0) ]

@@ -1,71 +1,97 @@
-use native.Mathlib.Omega.{arith}
-use mathlib.Core.Path.{refl, sym, ◌∙◌}
-use Rattle.spec.specs.Monad.{◌>>=◌}
-use Rattle.spec.specs.ReadBytes.{read_bytes_as_type}
-use Rattle.tables.specs.Tables.{tables_of}
-use Rattle.tables.proofs.Laws.{size_here, readable_sized}
-use Rattle.values.specs.Left.{counters_in}
-use Rattle.reads.specs.Reading.{at_of}
-use Rattle.reads.proofs.Lines.{size_at_of, read_here, parts_size, parts_weight, parts_few}
-use Rattle.reads.proofs.Laws.{leaf_room, gather_meets, room_parts}
-use Rattle.reads.proofs.PartLaws.{rest_all, rest_none, rest_fits, rest_first, rest_reach, rest_refused, rest_more}
+-- A type by its kind: a leaf as its own step leaves it, an aggregate by its parts, one after the other.
+use Rattle.std.proofs.Common.{refl, sym, ◌∙◌, arith}
+use Rattle.spec.specs.Lir.{value, unit}
+use Rattle.spec.specs.ReadBytes.{read_word, read_bytes_as_type}
+use Rattle.emission.specs.Appends.{room_less}
+use Rattle.tables.specs.Ticket.{ticket_of}
+use Rattle.tables.specs.declared.TypeKind.{TypeKind}
+use Rattle.values.specs.Left.{stops}
+use Rattle.reads.specs.Reading.{at_of, part_type}
+use Rattle.reads.proofs.Lines.{Parted, size_at_of, read_here, plain_here, bool_size, parted_array, parted_fields, read_parted}
+use Rattle.reads.proofs.Laws.{leaf_meets, gather_meets, gather_stops, room_parts}
+use Rattle.reads.proofs.PartLaws.{rest_none, rest_first, rest_reach, rest_refused, rest_more}
 use Rattle.reads.proofs.+read_bytes_as_type_read_parts.Goals as goal
+use Rattle.reads.proofs.+read_bytes_as_type_read_parts.Goals.{read_bytes_as_type-in-Array, read_bytes_as_type-in-Struct, read_bytes_as_type-in-Struct-2}
 
 pub read_bytes_as_type-returns-then-depth-eq0 : goal.read_bytes_as_type-returns-then-depth-eq0
 unfolding read_bytes_as_type
-read_bytes_as_type-returns-then-depth-eq0 t c = λ n. rw c.if-depth-eq0.true (record { shown = (refl, refl) })
+read_bytes_as_type-returns-then-depth-eq0 t c = rw (c.if-depth-eq0.true, c.refuse.ensures) (stops refl)
 
-pub read_bytes_as_type-reading_at-reading-requires : goal.read_bytes_as_type-reading_at-reading-requires
-read_bytes_as_type-reading_at-reading-requires t c = let a = c.args in readable_sized a.rows.now a.nodes.now a.lists.now a.counts c.requires.0
+pub read_bytes_as_type-returns-in-Unit : goal.read_bytes_as_type-returns-in-Unit
+unfolding read_word
+read_bytes_as_type-returns-in-Unit t c =
+    let a = c.args in
+    rw (read_here a.tables.now a.ty TypeKind.Unit (sym c.in-Unit.ensures) a.depth a.storage.0 a.o c.if-depth-eq0.false) (leaf_meets a.l.now _ (value a.ty unit) refl tt refl)
 
-pub read_bytes_as_type-read_leaf-requires : goal.read_bytes_as_type-read_leaf-requires
-read_bytes_as_type-read_leaf-requires t c = let a = c.args in let w = a.rows.now in let ns = a.nodes.now in let ls = a.lists.now in let T = tables_of w ns ls a.counts in let R = c.requires.0.types in (let a = c.args in readable_sized a.rows.now a.nodes.now a.lists.now a.counts c.requires.0, leaf_room w ns ls a.counts R a.ty a.s _ (sym c.reading_at-reading.ensures ∙ c.in-One.is) c.requires.1.room, omega (arith, size_at_of w ns ls a.counts a.ty, c.requires.1.reach))
+pub read_bytes_as_type-read_bool-requires : goal.read_bytes_as_type-read_bool-requires
+read_bytes_as_type-read_bool-requires t c =
+    let a = c.args in
+    room_less (omega (arith, bool_size a.tables.now a.ty (sym c.in-Bool.ensures))) c.requires.room
 
-pub read_bytes_as_type-overflow_sub-depth : goal.read_bytes_as_type-overflow_sub-depth
-read_bytes_as_type-overflow_sub-depth t c = omega (arith, c.if-depth-eq0.false)
+pub read_bytes_as_type-returns-in-Bool : goal.read_bytes_as_type-returns-in-Bool
+unfolding read_word
+read_bytes_as_type-returns-in-Bool t c =
+    let a = c.args in
+    rw (read_here a.tables.now a.ty TypeKind.Bool (sym c.in-Bool.ensures) a.depth a.storage.0 a.o c.if-depth-eq0.false) (c.read_bool.ensures (ticket_of a.tables.now) (at_of a.h) c.requires.node)
 
-pub read_bytes_as_type-read_parts-listed-requires : goal.read_bytes_as_type-read_parts-listed-requires
-read_bytes_as_type-read_parts-listed-requires t c = let a = c.args in let w = a.rows.now in let ns = a.nodes.now in let ls = a.lists.now in let T = tables_of w ns ls a.counts in let R = c.requires.0.types in let k = (sym c.reading_at-reading.ensures ∙ c.in-Many.is) in let f = parts_few w ns ls a.counts R a.ty _ _ k in (omega (arith, c.decreases, c.if-depth-eq0.false, f), (c.requires.0, room_parts (parts_size w ns ls a.counts R a.ty _ _ k) (parts_weight w ns ls a.counts R a.ty _ _ k) c.requires.1, omega (arith, f)))
+pub read_bytes_as_type-returns-in-Bits : goal.read_bytes_as_type-returns-in-Bits
+read_bytes_as_type-returns-in-Bits t c =
+    let a = c.args in
+    rw (plain_here a.tables.now a.ty c.in-Bits.is c.type_at.ensures a.depth a.storage.0 a.o c.if-depth-eq0.false) (c.read_plain.ensures a.l.now (at_of a.h))
 
-pub read_bytes_as_type-returns-in-One : goal.read_bytes_as_type-returns-in-One
-read_bytes_as_type-returns-in-One t c = let a = c.args in let w = a.rows.now in let ns = a.nodes.now in let ls = a.lists.now in let T = tables_of w ns ls a.counts in let R = c.requires.0.types in λ n. rw (read_here w ns ls a.counts a.depth a.storage.0 a.ty a.o (at_of a.h) (counters_in a.s) _ c.if-depth-eq0.false (sym c.reading_at-reading.ensures ∙ c.in-One.is)) (c.read_leaf.ensures T n _ (size_here w ns ls a.counts a.ty) c.requires.1.node)
+pub read_bytes_as_type-returns-in-Float : goal.read_bytes_as_type-returns-in-Float
+unfolding read_word
+read_bytes_as_type-returns-in-Float t c =
+    let a = c.args in
+    rw (read_here a.tables.now a.ty (TypeKind.Float c.in-Float.field-0) (sym c.in-Float.ensures) a.depth a.storage.0 a.o c.if-depth-eq0.false, c.refuse-in-Float.ensures) (stops refl)
 
-pub read_bytes_as_type-returns-in-Many : goal.read_bytes_as_type-returns-in-Many
-unfolding ◌>>=◌
-read_bytes_as_type-returns-in-Many t c = let a = c.args in let w = a.rows.now in let ns = a.nodes.now in let ls = a.lists.now in let T = tables_of w ns ls a.counts in let R = c.requires.0.types in λ n. rw (read_here w ns ls a.counts a.depth a.storage.0 a.ty a.o (at_of a.h) (counters_in a.s) _ c.if-depth-eq0.false (sym c.reading_at-reading.ensures ∙ c.in-Many.is)) (gather_meets a.ty _ (at_of a.h) (c.read_parts-listed.ensures n) c.gathered.ensures)
+pub read_bytes_as_type-read_parts-requires : goal.read_bytes_as_type-read_parts-requires
+read_bytes_as_type-read_parts-requires t c =
+    let a = c.args in
+    let parted : Parted (ticket_of a.tables.now) a.tables.now.lists.now a.ty c.match-type_at.parts.0 c.match-type_at.parts.1 = elim c.match-type_at.branch [
+      | read_bytes_as_type-in-Array w ↦ rw w.parts-is (parted_array a.tables.now a.ty w.in-Array.is c.type_at.ensures)
+      | read_bytes_as_type-in-Struct w ↦ rw w.parts-is (parted_fields a.tables.now a.ty w.in-Struct.is c.type_at.ensures)
+      | read_bytes_as_type-in-Struct-2 w ↦ rw w.parts-is (parted_fields a.tables.now a.ty w.in-Struct.is c.type_at.ensures)
+    ] in
+    (omega (arith, c.decreases, c.if-depth-eq0.false), room_parts parted.size parted.weight c.requires)
 
-pub read_parts-loop-m-init : goal.read_parts-loop-m-init
-read_parts-loop-m-init t c = rest_all c.requires.1 c.requires.2 (record { code = omega arith; store = omega arith; at = omega (arith, c.well_formed.1.1.1.1.1.1.1.0); stored = omega (arith, c.well_formed.1.1.1.1.1.1.1.0) })
+pub read_bytes_as_type-returns-in_err-read_parts : goal.read_bytes_as_type-returns-in_err-read_parts
+read_bytes_as_type-returns-in_err-read_parts t c =
+    let a = c.args in
+    let parted : Parted (ticket_of a.tables.now) a.tables.now.lists.now a.ty c.match-type_at.parts.0 c.match-type_at.parts.1 = elim c.match-type_at.branch [
+      | read_bytes_as_type-in-Array w ↦ rw w.parts-is (parted_array a.tables.now a.ty w.in-Array.is c.type_at.ensures)
+      | read_bytes_as_type-in-Struct w ↦ rw w.parts-is (parted_fields a.tables.now a.ty w.in-Struct.is c.type_at.ensures)
+      | read_bytes_as_type-in-Struct-2 w ↦ rw w.parts-is (parted_fields a.tables.now a.ty w.in-Struct.is c.type_at.ensures)
+    ] in
+    rw (read_parted a.tables.now a.ty parted a.depth a.storage.0 a.o c.if-depth-eq0.false) (gather_stops a.ty _ _ (at_of a.h) c.in_err-read_parts.ensures c.from_residual.ensures.1)
 
-pub read_parts-part_at-part-requires : goal.read_parts-part_at-part-requires
-read_parts-part_at-part-requires t c = let a = c.args in readable_sized a.rows.now a.nodes.now a.lists.now a.counts c.requires.0
-
-pub read_parts-overflow_add-top : goal.read_parts-overflow_add-top
-read_parts-overflow_add-top t c = let g = c.loop-m.invariant in let k = c.loop-m-test.true in let R = c.requires.0.types in omega (arith, rest_fits g k R, g.stack_long, c.well_formed.1.1.1.1.1.1.0)
+pub read_bytes_as_type-returns : goal.read_bytes_as_type-returns
+read_bytes_as_type-returns t c =
+    let a = c.args in
+    let parted : Parted (ticket_of a.tables.now) a.tables.now.lists.now a.ty c.match-type_at.parts.0 c.match-type_at.parts.1 = elim c.match-type_at.branch [
+      | read_bytes_as_type-in-Array w ↦ rw w.parts-is (parted_array a.tables.now a.ty w.in-Array.is c.type_at.ensures)
+      | read_bytes_as_type-in-Struct w ↦ rw w.parts-is (parted_fields a.tables.now a.ty w.in-Struct.is c.type_at.ensures)
+      | read_bytes_as_type-in-Struct-2 w ↦ rw w.parts-is (parted_fields a.tables.now a.ty w.in-Struct.is c.type_at.ensures)
+    ] in
+    rw (read_parted a.tables.now a.ty parted a.depth a.storage.0 a.o c.if-depth-eq0.false) (gather_meets a.ty _ _ (at_of a.h) c.in_ok-read_parts.ensures)
 
 pub read_parts-read_bytes_as_type-requires : goal.read_parts-read_bytes_as_type-requires
-read_parts-read_bytes_as_type-requires t c = let g = c.loop-m.invariant in let k = c.loop-m-test.true in let R = c.requires.0.types in (omega (arith, c.decreases), (c.requires.0, rw (c.at_top.ensures, c.part_at-part.ensures.0) (rest_first g k)))
+read_parts-read_bytes_as_type-requires t c = (omega (arith, c.decreases), rw c.ty-ty.ensures (rest_first c.loop-i.invariant c.loop-i-test.true))
 
-pub read_parts-returns-in-Refused : goal.read_parts-returns-in-Refused
-read_parts-returns-in-Refused t c = let g = c.loop-m.invariant in let k = c.loop-m-test.true in let R = c.requires.0.types in λ l. let v = rw (c.at_top.ensures, c.part_at-part.ensures.0) at (c.read_bytes_as_type.ensures l) in rest_refused g k l v c.in-Refused.is
+pub read_parts-returns-in_err-head : goal.read_parts-returns-in_err-head
+read_parts-returns-in_err-head t c = rest_refused c.loop-i.invariant c.loop-i-test.true (rw c.ty-ty.ensures at c.in_err-head.ensures) c.from_residual.ensures.1
 
-pub read_parts-store_head-requires : goal.read_parts-store_head-requires
-read_parts-store_head-requires t c = let g = c.loop-m.invariant in let k = c.loop-m-test.true in let R = c.requires.0.types in omega (arith, rest_fits g k R, c.read_bytes_as_type.auto.stack)
+pub read_parts-overflow_add-at : goal.read_parts-overflow_add-at
+read_parts-overflow_add-at t c =
+    let s = rw c.ty-ty.ensures at c.type_size-at.ensures in
+    omega (arith, rest_reach c.loop-i.invariant c.loop-i-test.true, size_at_of c.args.tables.now (part_type c.args.tables.now.lists.now c.args.parts c.loop-i.i), s)
 
-pub read_parts-overflow_add-j : goal.read_parts-overflow_add-j
-read_parts-overflow_add-j t c = let g = c.loop-m.invariant in omega (arith, g.few, c.loop-m-test.true)
-
-pub read_parts-overflow_sub-m : goal.read_parts-overflow_sub-m
-read_parts-overflow_sub-m t c = omega (arith, c.loop-m-test.true)
-
-pub read_parts-overflow_add-p : goal.read_parts-overflow_add-p
-read_parts-overflow_add-p t c = let g = c.loop-m.invariant in let k = c.loop-m-test.true in let R = c.requires.0.types in omega (arith, rest_reach g k, c.part_at-part.ensures.1)
-
-pub read_parts-loop-m-smaller : goal.read_parts-loop-m-smaller
-read_parts-loop-m-smaller t c = omega (arith, c.loop-m-test.true)
-
-pub read_parts-loop-m-preserved : goal.read_parts-loop-m-preserved
-read_parts-loop-m-preserved t c = let g = c.loop-m.invariant in let k = c.loop-m-test.true in let R = c.requires.0.types in let q = c.read_bytes_as_type.auto in rest_more g k R (λ l. rw (c.at_top.ensures, c.part_at-part.ensures.0) at (c.read_bytes_as_type.ensures l)) c.in-Done.is c.store_head.ensures c.part_at-part.ensures.1 q.code q.store
+pub read_parts-loop-i-preserved : goal.read_parts-loop-i-preserved
+read_parts-loop-i-preserved t c =
+    let T = c.args.tables.now in
+    let s = rw c.ty-ty.ensures at c.type_size-at.ensures in
+    let e = s ∙ sym (size_at_of T (part_type T.lists.now c.args.parts c.loop-i.i)) in
+    rw (e, c.store8.ensures, c.value_words.ensures) (rest_more c.loop-i.invariant c.loop-i-test.true T.readable.types (rw c.ty-ty.ensures at c.in_ok-head.ensures))
 
 pub read_parts-returns : goal.read_parts-returns
-read_parts-returns t c = rest_none c.loop-m.invariant c.loop-m-test.false
+read_parts-returns t c = rest_none c.loop-i.invariant c.loop-i-test.false

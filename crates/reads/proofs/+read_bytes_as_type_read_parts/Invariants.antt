@@ -1,4 +1,5 @@
-use Prim.Native.Nat.{◌+◌, ◌*◌}
+use Rattle.std.proofs.Common.{◌+◌, ◌*◌}
+use Rattle.tables.specs.Ticket.{ticket_of}
 use Rattle.reads.specs.Reading.{at_of}
 use Rattle.reads.proofs.PartLaws.{Rest}
 use Rattle.reads.proofs.+read_bytes_as_type_read_parts.Given as goal
@@ -9,8 +10,5 @@ decreases-read_bytes_as_type l = l.depth * 2
 abbrev pub decreases-read_parts : goal.decreases-read_parts
 decreases-read_parts l = l.depth * 2 + 1
 
-abbrev pub invariant-read_parts-loop-m : goal.invariant-read_parts-loop-m
-invariant-read_parts-loop-m l = Rest l.rows l.nodes l.lists l.counts l.depth l.storage.0 l.parts (at_of l.h) l.i l.n l.o l.initial.code l.initial.store l.initial.stack l.initial.t l.j l.m l.p l.code l.store l.stack l.t
-
-abbrev pub decreases-read_parts-loop-m : goal.decreases-read_parts-loop-m
-decreases-read_parts-loop-m l = l.m
+abbrev pub invariant-read_parts-loop-i : goal.invariant-read_parts-loop-i
+invariant-read_parts-loop-i l = Rest (ticket_of l.tables) l.tables.lists.now l.depth l.storage.0 l.parts (at_of l.h) l.n l.o l.initial.l l.i l.at l.l

@@ -1,12 +1,14 @@
 -- The root's tree has its room, and its lowering is the ticket's.
-use Rattle.sections.proofs.Laws.{some_node, root_ready, root_meets}
+use native.Mathlib.Omega.{arith}
+use Rattle.tables.specs.Ticket.{ticket_of}
+use Rattle.sections.proofs.Laws.{node_count, root_room, root_meets}
 use Rattle.sections.proofs.lower_root.Goals as goal
 
-pub overflow_sub-k : goal.overflow_sub-k
-overflow_sub-k c = some_node c.args.rows.now c.args.nodes.now c.args.lists.now c.args.counts c.requires
+pub overflow_sub-tables : goal.overflow_sub-tables
+overflow_sub-tables c = let t = c.args.tables.now in omega (arith, t.readable.some_node, node_count t.rows.now t.lists.now t.counts)
 
 pub lower_expression-requires : goal.lower_expression-requires
-lower_expression-requires c = root_ready c.args.rows.now c.args.nodes.now c.args.lists.now c.args.counts c.start-s.ensures c.requires
+lower_expression-requires c = let t = c.args.tables.now in root_room (ticket_of t) t.counts.nodes c.requires (node_count t.rows.now t.lists.now t.counts) t.readable
 
 pub returns : goal.returns
-returns c = root_meets c.args.rows.now c.args.nodes.now c.args.lists.now c.args.counts c.start-s.ensures c.lower_expression.ensures
+returns c = let t = c.args.tables.now in root_meets (ticket_of t) t.counts.nodes c.requires (node_count t.rows.now t.lists.now t.counts) c.lower_expression.ensures

@@ -1,19 +1,12 @@
--- The four sections, one behind the other.
+-- Each half in its own run, over the part of the buffer that it fills.
+use mathlib.Core.Path.{sym}
 use native.Mathlib.Omega.{arith}
-use Rattle.sections.proofs.Laws.{storage_count, exact, ready_kept, end_ready, not_refused, listing_put}
+use lib.Seq.{length-take-le}
+use Rattle.sections.proofs.Laws.{halves_written}
 use Rattle.sections.proofs.write.Goals as goal
 
-pub write_storages-requires : goal.write_storages-requires
-write_storages-requires c = let x = exact c.requires.1 (omega arith) in (c.requires.0, omega (arith, c.requires.2))
+pub slice_bounds-measure-end-3 : goal.slice_bounds-measure-end-3
+slice_bounds-measure-end-3 c = sym (length-take-le c.args.m.front c.args.buffer.now (omega (arith, c.requires.3, c.requires.4)))
 
-pub write_code-requires : goal.write_code-requires
-write_code-requires c = let x = exact c.requires.1 (omega arith) in (ready_kept c.write_storages.auto.stack c.requires.0, omega arith, omega (arith, c.requires.2, c.print_narrowed.auto.buf, c.write_storages.auto.buffer))
-
-pub print_end-requires : goal.print_end-requires
-print_end-requires c = (end_ready c.requires.1 c.write_code.ensures c.in-Done.is).0
-
-pub returns-in-Done : goal.returns-in-Done
-returns-in-Done c = listing_put c.requires.1 c.write_code.ensures (omega (arith, c.well_formed, c.requires.2)) (storage_count c.args.rows.now c.args.nodes.now c.args.lists.now c.args.counts) c.write_storages.ensures c.print_narrowed.ensures c.in-Done.is c.print_end.ensures
-
-pub returns-in-Refused : goal.returns-in-Refused
-returns-in-Refused c = absurd (not_refused c.requires.1 c.write_code.ensures c.in-Refused.is)
+pub returns : goal.returns
+returns c = halves_written c.requires.2 (omega (arith, c.well_formed, c.requires.4)) c.args.buffer.now c.requires.4 c.measure.ensures.halves c.measure.auto.store c.measure-2.ensures.halves c.measure-2.auto.code

@@ -1,21 +1,81 @@
--- `selects::lower_select` meets its contract: a temporary, or its refusal, and what is done behind it.
-use mathlib.Core.Path.{sym, ◌∙◌}
-use native.Mathlib.Omega.{arith}
-use Rattle.tables.specs.Tables.{tables_of}
-use Rattle.tables.proofs.Laws.{size_here, readable_sized}
+-- The temporary, the pieces into it, and its value.
+use Rattle.std.specs.Prelude.{◌≡◌, ◌≤◌, [], Ok}
+use Rattle.std.proofs.Common.{rules, arith, sym, ◌∙◌}
+use Rattle.answers.specs.declared.Refusal.{Refusal}
+use Rattle.lir.specs.Abstract.{bit_operand_of}
+use Rattle.emission.specs.Appends.{room_less}
+use Rattle.parts.specs.Records.{are_records}
+use Rattle.tables.specs.Ticket.{ticket_of}
+use Rattle.tables.proofs.Laws.{size_here}
 use Rattle.reads.specs.Reading.{at_of}
-use Rattle.reads.proofs.Lines.{size_at_of}
-use Rattle.selects.proofs.Laws.{temporary_room, select_refused, select_meets}
+use Rattle.reads.proofs.Laws.{passed}
+use Rattle.steps.proofs.Asks.{told_err, told_stops}
+use Rattle.selects.proofs.Selected.{size_few, not_placed, types_differ, room_behind, pieces_refused, room_read, selected}
 use Rattle.selects.proofs.lower_select.Goals as goal
 
-pub type_size-size-requires : goal.type_size-size-requires
-type_size-size-requires c = let a = c.args in readable_sized a.rows.now a.nodes.now a.lists.now a.counts c.requires.0
+pub returns-in_err-to : goal.returns-in_err-to
+returns-in_err-to c =
+    let a = c.args in
+    let t = a.tables.now in
+    let size = size_here t.rows.now t.lists.now t.counts a.h.ty ∙ sym c.type_size-size.ensures in
+    let w = told_err _ c.allocate_temporary.result _ c.in_err-to.ensures.cases in
+    let made = w.1.1 in
+    let e : c.in_err-to.field-0.0 ≡ record { refusal = w.0; line = a.h.line } = search rules in
+    passed c.from_residual.result _ c.from_residual.ensures.1 (rw e (not_placed (ticket_of t) (bit_operand_of a.c) a.t.ty a.f.ty a.h.ty _ _ (at_of a.h) a.l.now (c.allocate_temporary.ensures (ticket_of t) size) w.1.0))
 
-pub select_into-requires : goal.select_into-requires
-select_into-requires c = let a = c.args in let T = tables_of a.rows.now a.nodes.now a.lists.now a.counts in let w = c.allocate_temporary.ensures T (size_here a.rows.now a.nodes.now a.lists.now a.counts a.h.ty ∙ sym c.type_size-size.ensures) in (c.requires.0, temporary_room {s = a.s} w c.in-Placed.is c.requires.1 (size_at_of a.rows.now a.nodes.now a.lists.now a.counts a.h.ty ∙ sym c.type_size-size.ensures), record { first_sound = c.requires.2; second_sound = c.requires.3; first = c.requires.4; second = c.requires.5; below = c.requires.6; behind = c.requires.7; fits = c.requires.8 })
+pub returns-then-t-f : goal.returns-then-t-f
+returns-then-t-f c =
+    let a = c.args in
+    let t = a.tables.now in
+    let size = size_here t.rows.now t.lists.now t.counts a.h.ty ∙ sym c.type_size-size.ensures in
+    let e : c.allocate_temporary.result ≡ Ok c.in_ok-to.to = search rules in
+    told_stops Refusal.TypeMismatch c.refuse.ensures
+    (types_differ (ticket_of t) (bit_operand_of a.c) a.t.ty a.f.ty a.h.ty _ _ (at_of a.h) a.l.now (c.allocate_temporary.ensures (ticket_of t) size) e c.then-t-f.either)
 
-pub returns-in-Refused : goal.returns-in-Refused
-returns-in-Refused c = let a = c.args in let T = tables_of a.rows.now a.nodes.now a.lists.now a.counts in let w = c.allocate_temporary.ensures T (size_here a.rows.now a.nodes.now a.lists.now a.counts a.h.ty ∙ sym c.type_size-size.ensures) in λ n. select_refused T _ _ _ _ _ _ a.s w (at_of a.h) c.in-Refused.is
+pub select_values-selected-requires : goal.select_values-selected-requires
+select_values-selected-requires c =
+    let a = c.args in
+    let t = a.tables.now in
+    let r = c.requires in
+    let size = size_here t.rows.now t.lists.now t.counts a.h.ty ∙ sym c.type_size-size.ensures in
+    let e : c.allocate_temporary.result ≡ Ok c.in_ok-to.to = search rules in
+    let few : c.type_size-size.result ≤ 1024 = size_few t a.h.ty c.type_size-size.ensures in (
+      r.1,
+      r.2,
+      rw c.take-stack.ensures.value (are_records r.3),
+      rw c.take-stack.ensures.value (are_records r.4),
+      room_less (omega (arith, c.targets_of-targets.ensures.few few)) (room_behind (ticket_of t) (bit_operand_of a.c) a.t.ty a.f.ty a.h.ty [] [] (at_of a.h) a.l.now (c.allocate_temporary.ensures (ticket_of t) size) e r.0),
+    )
 
-pub returns-in-Placed : goal.returns-in-Placed
-returns-in-Placed c = let a = c.args in let T = tables_of a.rows.now a.nodes.now a.lists.now a.counts in let w = c.allocate_temporary.ensures T (size_here a.rows.now a.nodes.now a.lists.now a.counts a.h.ty ∙ sym c.type_size-size.ensures) in λ n. select_meets T _ _ _ _ _ _ a.s w (at_of a.h) c.in-Placed.is (omega (arith, c.well_formed.1.1.1.1.0)) (omega (arith, c.well_formed.1.1.1.1.1.1.1.0)) (omega (arith, c.requires.6, c.requires.7, c.requires.8)) c.requires.1.node (c.select_into.ensures n)
+pub returns-in_err-map_err : goal.returns-in_err-map_err
+returns-in_err-map_err c =
+    let a = c.args in
+    let t = a.tables.now in
+    let size = size_here t.rows.now t.lists.now t.counts a.h.ty ∙ sym c.type_size-size.ensures in
+    let e : c.allocate_temporary.result ≡ Ok c.in_ok-to.to = search rules in
+    let w = told_err _ c.select_values-selected.result _ c.in_err-map_err.ensures.cases in
+    let made = w.1.1 in
+    let g : c.in_err-map_err.field-0.0 ≡ record { refusal = w.0; line = a.h.line } = search rules in
+    passed c.from_residual-in_err-map_err.result _ c.from_residual-in_err-map_err.ensures.1
+    (rw g (pieces_refused (ticket_of t) (bit_operand_of a.c) a.t.ty a.f.ty a.h.ty _ _ (at_of a.h) a.l.now (c.allocate_temporary.ensures (ticket_of t) size) e c.if-t-f.false c.if-t-h.false size c.targets_of-targets.ensures.is (rw c.take-stack.ensures.value at c.select_values-selected.ensures) w.1.0))
+
+pub read_temporary-requires : goal.read_temporary-requires
+read_temporary-requires c =
+    let a = c.args in
+    let t = a.tables.now in
+    let size = size_here t.rows.now t.lists.now t.counts a.h.ty ∙ sym c.type_size-size.ensures in
+    let e : c.allocate_temporary.result ≡ Ok c.in_ok-to.to = search rules in
+    let d : c.select_values-selected.result ≡ Ok tt = search rules in
+    let few : c.type_size-size.result ≤ 1024 = size_few t a.h.ty c.type_size-size.ensures in
+    rw c.take-stack.ensures.value
+    (room_read (ticket_of t) (bit_operand_of a.c) a.t.ty a.f.ty a.h.ty _ _ (at_of a.h) a.l.now (c.allocate_temporary.ensures (ticket_of t) size) e c.if-t-f.false c.if-t-h.false size c.targets_of-targets.ensures.is c.select_values-selected.ensures d t.readable c.requires.0 (c.targets_of-targets.ensures.few few))
+
+pub returns : goal.returns
+returns c =
+    let a = c.args in
+    let t = a.tables.now in
+    let size = size_here t.rows.now t.lists.now t.counts a.h.ty ∙ sym c.type_size-size.ensures in
+    let e : c.allocate_temporary.result ≡ Ok c.in_ok-to.to = search rules in
+    let d : c.select_values-selected.result ≡ Ok tt = search rules in
+    selected (ticket_of t) (bit_operand_of a.c) a.t.ty a.f.ty a.h.ty _ _ (at_of a.h) a.l.now (c.allocate_temporary.ensures (ticket_of t) size) e c.if-t-f.false c.if-t-h.false size c.targets_of-targets.ensures.is (rw c.take-stack.ensures.value at c.select_values-selected.ensures) d c.requires.0.node
+    (rw c.take-stack.ensures.value at c.read_temporary.ensures)

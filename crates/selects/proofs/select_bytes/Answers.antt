@@ -1,20 +1,24 @@
--- `selects::select_bytes` meets its contract: the loop has appended the first i entries of the table.
-use mathlib.Core.Path.{◌≡◌, refl}
-use native.Mathlib.Omega.{arith}
+-- The first i bytes are selected.
+use Rattle.std.specs.Prelude.{◌≡◌}
+use Rattle.std.proofs.Common.{arith}
 use Rattle.lir.specs.Abstract.{bit_operand_of}
-use Rattle.lir.specs.PutFields.{length_tab}
+use Rattle.lir.specs.Tab.{length_tab}
 use Rattle.emission.specs.Emits.{table_none, table_more, room_emitted}
 use Rattle.selects.specs.Selecting.{byte_selected}
 use Rattle.selects.proofs.select_bytes.Goals as goal
 
 pub loop-i-init : goal.loop-i-init
-loop-i-init c = (omega arith, table_none _ (omega arith) (omega arith))
+loop-i-init c = table_none _ _
 
-pub select_byte-counters-requires : goal.select_byte-counters-requires
-select_byte-counters-requires c = let a = c.args in let at = c.loop-i in room_emitted 1 (omega (arith, length_tab (byte_selected a.to.0 (bit_operand_of a.q) a.t a.f) 0 at.i)) c.requires.2 at.invariant.1
+pub emit-requires : goal.emit-requires
+emit-requires c =
+    let a = c.args in
+    (tt, room_emitted 1 (omega (arith, length_tab (byte_selected a.to.0 (bit_operand_of a.c) a.t a.f) 0 c.loop-i.i)) c.requires.2 c.loop-i.invariant)
 
 pub loop-i-preserved : goal.loop-i-preserved
-loop-i-preserved c = let a = c.args in let at = c.loop-i in (omega arith, table_more (byte_selected a.to.0 (bit_operand_of a.q) a.t a.f) at.i refl at.invariant.1 (rw (c.byte_at.ensures, c.byte_at-in-loop-i.ensures) at c.select_byte-counters.ensures))
+loop-i-preserved c =
+    let a = c.args in
+    table_more (byte_selected a.to.0 (bit_operand_of a.c) a.t a.f) c.loop-i.i (rw (c.byte_at-x.ensures, c.byte_at-y.ensures)) c.loop-i.invariant c.emit.ensures
 
 pub returns : goal.returns
-returns c = let e : c.loop-i.i ≡ c.args.n = omega arith in rw e at c.loop-i.invariant.1
+returns c = let e : c.loop-i.i ≡ c.args.n = omega arith in rw e at c.loop-i.invariant

@@ -1,32 +1,27 @@
--- `selects::select_pieces` meets its contract: what the pieces that are left leave, the whole leaves.
-use native.Mathlib.Omega.{arith}
-use Rattle.emission.specs.Appends.{room_less}
-use Rattle.selects.proofs.Laws.{rest_all, rest_none, rest_over, rest_refused, rest_more}
+-- The pieces that are left are looked at one by one.
+use Rattle.std.proofs.Common.{arith}
+use Rattle.selects.proofs.Laws.{rest_all, rest_none, rest_room, first_over, second_over, piece_refused, piece_more, piece_is, piece_not}
 use Rattle.selects.proofs.select_pieces.Goals as goal
 
-pub loop-m-init : goal.loop-m-init
-loop-m-init c = rest_all c.requires.0 c.requires.1 c.requires.2 c.requires.3 (omega arith) (omega (arith, c.well_formed.1.1.0)) (omega (arith, c.well_formed.1.1.0))
+pub loop-i-init : goal.loop-i-init
+loop-i-init c = rest_all c.requires
 
-pub select_next-requires : goal.select_next-requires
-select_next-requires c = let k = c.loop-m.invariant in (k.first, k.second, room_less (omega (arith, c.loop-m-test.true)) k.room)
+pub returns-in_default : goal.returns-in_default
+returns-in_default c = first_over c.loop-i.invariant c.loop-i-test.true c.in_default.ensures.steps.0
 
-pub returns-in-Over : goal.returns-in-Over
-returns-in-Over c = rest_over c.loop-m.invariant c.loop-m-test.true c.select_next.ensures c.in-Over.is
+pub returns-in_default-next : goal.returns-in_default-next
+returns-in_default-next c = second_over c.loop-i.invariant c.loop-i-test.true c.in-Some.ensures.steps c.in_default-next.ensures.steps.0
 
-pub returns-in-Refused : goal.returns-in-Refused
-returns-in-Refused c = rest_refused c.loop-m.invariant c.loop-m-test.true c.select_next.ensures c.in-Refused.is
+pub returns-in_default-select_piece : goal.returns-in_default-select_piece
+returns-in_default-select_piece c =
+    piece_refused c.loop-i.invariant c.loop-i-test.true c.in-Some.ensures.steps c.in-Some-next.ensures.steps (piece_not c.select_piece.ensures.is c.in_default-select_piece.is)
 
-pub overflow_add-j : goal.overflow_add-j
-overflow_add-j c = omega (arith, c.loop-m.invariant.few)
+pub emit-requires : goal.emit-requires
+emit-requires c = (c.in-Some-select_piece.ensures.sound, rest_room c.loop-i.invariant c.loop-i-test.true)
 
-pub overflow_sub-m : goal.overflow_sub-m
-overflow_sub-m c = omega (arith, c.loop-m-test.true)
-
-pub loop-m-smaller : goal.loop-m-smaller
-loop-m-smaller c = omega (arith, c.loop-m-test.true)
-
-pub loop-m-preserved : goal.loop-m-preserved
-loop-m-preserved c = rest_more c.loop-m.invariant c.loop-m-test.true c.select_next.ensures c.in-More.is
+pub loop-i-preserved : goal.loop-i-preserved
+loop-i-preserved c =
+    piece_more c.loop-i.invariant c.loop-i-test.true c.in-Some.ensures.steps c.in-Some-next.ensures.steps (piece_is c.select_piece.ensures.is c.in-Some-select_piece.is) c.emit.ensures
 
 pub returns : goal.returns
-returns c = rest_none c.loop-m.invariant c.loop-m-test.false
+returns c = rest_none c.loop-i.invariant (omega arith)

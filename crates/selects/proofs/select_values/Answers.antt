@@ -1,19 +1,15 @@
--- `selects::select_values` meets its contract: byte by byte, or by cursors.
-use native.Mathlib.Omega.{arith}
-use Rattle.lir.specs.Abstract.{bit_operand_of}
-use Rattle.emission.specs.Appends.{room_less}
-use Rattle.parts.specs.Operands.{ready_first}
-use Rattle.selects.proofs.Laws.{sides_alone, bytes_small, pieces_bytes}
+-- With no records behind either side both are their own bytes.
+use Rattle.std.specs.Prelude.{◌≡◌, false, length}
+use Rattle.std.proofs.Common.{rules}
+use Rattle.selects.proofs.Laws.{pieces_bytes, bytes_alone, shortest}
 use Rattle.selects.proofs.select_values.Goals as goal
 
-pub select_bytes-requires : goal.select_bytes-requires
-select_bytes-requires c = let k = c.requires.0 in let a = sides_alone c.sides_of.ensures c.in-Bytes.is in (bytes_small c.args.t a.first k.first_sound, bytes_small c.args.f a.second k.second_sound, room_less (omega (arith, c.lesser-m.ensures)) c.requires.1)
-
-pub select_pieces-requires : goal.select_pieces-requires
-select_pieces-requires c = let k = c.requires.0 in (rw c.operands-a.ensures (ready_first _ k.below (omega (arith, k.behind, k.fits)) k.first k.first_sound), rw c.operands-b.ensures (ready_first _ k.behind k.fits k.second k.second_sound), c.requires.1, omega (arith, c.requires.2))
-
-pub returns-in-Bytes : goal.returns-in-Bytes
-returns-in-Bytes c = let a = c.args in pieces_bytes (bit_operand_of a.q) a.to.0 a.stack.now a.n (sides_alone c.sides_of.ensures c.in-Bytes.is) c.requires.0.below c.requires.0.behind (rw c.lesser.ensures at c.lesser-m.ensures) (omega (arith, c.well_formed.1.1.0)) c.select_bytes.ensures
-
-pub returns-in-Others : goal.returns-in-Others
-returns-in-Others c = rw (c.operands-a.ensures, c.operands-b.ensures) at c.select_pieces.ensures
+pub returns-in-Bytes-Bytes : goal.returns-in-Bytes-Bytes
+returns-in-Bytes-Bytes c =
+    let a = c.args in
+    let b = c.in-Bytes-Bytes in
+    let e : length a.first.now ≡ 0 = search rules in
+    let flag : a.to.bit ≡ false = search rules in
+    let f : length a.second.now ≡ 0 = search rules in
+    rw (bytes_alone a.t a.first.now b.is-0 e, bytes_alone a.f a.second.now b.is-1 f, flag)
+    (pieces_bytes _ _ a.to.count b.x b.y (shortest a.to.count b.x.total b.y.total c.min.ensures c.min-in-Bytes-Bytes.ensures) c.select_bytes.ensures)

@@ -1,10 +1,18 @@
 -- `steps::integer_to_bool` meets its contract: a new bit, or the refusal.
+use Rattle.std.specs.Prelude.{refl}
+use Rattle.spec.specs.Lir.{value, bit_value, stored_bit}
+use Rattle.spec.specs.Allocation.{bool_type}
+use Rattle.spec.specs.Conversions.{integer_to_bool}
 use Rattle.reads.specs.Reading.{at_of}
-use Rattle.steps.proofs.Laws.{bool_stopped, bool_new}
+use Rattle.steps.proofs.Asks.{shows_stops, shows_as}
 use Rattle.steps.proofs.integer_to_bool.Goals as goal
 
-pub returns-in-Refused : goal.returns-in-Refused
-returns-in-Refused c = λ nodes m stack nd. bool_stopped _ _ (at_of c.args.h) c.args.s m stack (c.not_zero.ensures nodes) c.in-Refused.is
+pub returns-in_err-id : goal.returns-in_err-id
+unfolding integer_to_bool
+returns-in_err-id c = λ nd. shows_stops _ _ (at_of c.args.h) (c.in_err-id.ensures nd) c.from_residual.ensures.1
 
-pub returns-in-Placed : goal.returns-in-Placed
-returns-in-Placed c = λ nodes m stack nd. bool_new _ _ (at_of c.args.h) c.args.s m stack nd (c.not_zero.ensures nodes) c.in-Placed.is c.bit_value.ensures
+pub returns : goal.returns
+unfolding integer_to_bool
+returns c =
+    λ nd. rw c.bool_value.ensures
+    (shows_as _ (λ d. value bool_type (bit_value (stored_bit d))) (at_of c.args.h) (c.in_ok-id.ensures nd) (λ v. refl) (λ v e. record { head = rw e; sound = tt }))

@@ -1,15 +1,22 @@
 -- `steps::lower_address_of` meets its contract: the address of the base that the place leads to.
-use Rattle.steps.proofs.Pointers.{based_refused, based_found, meets_as}
-use Rattle.steps.proofs.Laws.{value_stops}
+use Rattle.std.specs.Prelude.{◌≡◌, Ok}
+use Rattle.std.proofs.Common.{rules}
+use Rattle.spec.specs.Select.{lower_address_of}
+use Rattle.places.specs.Abstract.{base_from}
 use Rattle.reads.specs.Reading.{at_of}
-use Rattle.tables.proofs.Laws.{readable_sized}
+use Rattle.steps.proofs.Asks.{told_err, place_stops, place_meets}
 use Rattle.steps.proofs.lower_address_of.Goals as goal
 
-pub storage_address-requires : goal.storage_address-requires
-storage_address-requires c = (readable_sized _ _ _ _ c.requires.0, c.requires.1)
+pub returns-in_err-base : goal.returns-in_err-base
+unfolding lower_address_of
+returns-in_err-base c =
+    let w = told_err _ c.resolve_addressed_place.result _ c.in_err-base.ensures.cases in
+    let made = w.1.1 in
+    let e : c.in_err-base.field-0.0 ≡ record { refusal = w.0; line = c.args.h.line } = search rules in
+    λ nd. place_stops (base_from c.args.tables.now.lists.now) c.resolve_addressed_place.result _ (at_of c.args.h) c.resolve_addressed_place.ensures.step w.1.0 e c.from_residual.ensures.1
 
-pub returns-in-Refused : goal.returns-in-Refused
-returns-in-Refused c = λ stack nd. value_stops (based_refused _ _ _ _ (at_of c.args.h) _ c.resolve_addressed_place.ensures c.in-Refused.is)
-
-pub returns-in-At : goal.returns-in-At
-returns-in-At c = λ stack nd. meets_as (based_found _ _ _ _ (at_of c.args.h) _ c.resolve_addressed_place.ensures c.in-At.is) (c.storage_address.ensures _ stack c.requires.0.types nd)
+pub returns : goal.returns
+unfolding lower_address_of
+returns c =
+    let e : c.resolve_addressed_place.result ≡ Ok c.in_ok-base.base = search rules in
+    λ nd. place_meets (base_from c.args.tables.now.lists.now) c.resolve_addressed_place.result _ (at_of c.args.h) c.resolve_addressed_place.ensures.step e (c.storage_address.ensures nd)

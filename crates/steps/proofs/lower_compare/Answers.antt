@@ -1,19 +1,50 @@
 -- `steps::lower_compare` meets its contract: the width first, then the operands, then the operator.
+use Rattle.std.specs.Prelude.{refl}
+use Rattle.std.specs.Option.{option_map}
+use Rattle.std.proofs.Common.{ap, ◌∙◌}
+use Rattle.answers.specs.declared.Refusal.{Refusal}
+use Rattle.spec.specs.Operands.{value_bytes}
+use Rattle.spec.specs.Allocation.{integer_width}
+use Rattle.spec.specs.Conversions.{lower_compare}
+use Rattle.lir.specs.Abstract.{bytes_of, compare_op_of}
+use Rattle.emission.specs.Forms.{comparing}
 use Rattle.reads.specs.Reading.{at_of}
-use Rattle.steps.proofs.Laws.{wide, value_stops, compare_no_width, compare_no_left, compare_no_right, compare_meets}
+use Rattle.steps.proofs.Asks.{some_in, none_in, ask_stops, none_stops, some_meets, does_shows}
+use Rattle.steps.proofs.Laws.{wide, compared_float}
 use Rattle.steps.proofs.lower_compare.Goals as goal
 
-pub compared-requires : goal.compared-requires
-compared-requires c = (rw c.in-Bytes.is at c.value_bytes.ensures.small, rw c.in-Bytes-value_bytes.is at c.value_bytes-in-Bytes.ensures.small, c.requires.3)
+pub returns-in_err-width : goal.returns-in_err-width
+unfolding lower_compare integer_width
+returns-in_err-width c = λ nd. none_stops (λ x. x) c.integer_width.result _ _ (at_of c.args.h) Refusal.UnsupportedType (wide c.args.left c.integer_width.ensures) c.in_err-width.ensures.value c.refuse.ensures c.from_residual.ensures.1
 
-pub returns-in-Absent : goal.returns-in-Absent
-returns-in-Absent c = λ nodes n stack nd. value_stops (compare_no_width _ _ _ _ (at_of c.args.h) _ (wide c.args.l (rw c.in-Absent.is at (c.integer_width.ensures nodes))))
+pub returns-in_err-a : goal.returns-in_err-a
+unfolding lower_compare integer_width value_bytes
+returns-in_err-a c =
+    λ nd. some_meets (λ x. x) c.integer_width.result _ _ _ (at_of c.args.h) (wide c.args.left c.integer_width.ensures) c.in_ok-width.ensures.value
+    (none_stops bytes_of c.value_bytes.result _ _ (at_of c.args.h) Refusal.UnsupportedExpression c.value_bytes.ensures.bytes c.in_err-a.ensures.value c.refuse-2.ensures c.from_residual-in_err-a.ensures.1)
 
-pub returns-in-Absent-value_bytes : goal.returns-in-Absent-value_bytes
-returns-in-Absent-value_bytes c = λ nodes n stack nd. value_stops (compare_no_left _ _ _ _ (at_of c.args.h) _ (wide c.args.l (rw c.in-Found.is at (c.integer_width.ensures nodes))) (rw c.in-Absent-value_bytes.is at c.value_bytes.ensures.is))
+pub returns-in_err-b : goal.returns-in_err-b
+unfolding lower_compare integer_width value_bytes
+returns-in_err-b c =
+    λ nd. some_meets (λ x. x) c.integer_width.result _ _ _ (at_of c.args.h) (wide c.args.left c.integer_width.ensures) c.in_ok-width.ensures.value
+    (some_meets bytes_of c.value_bytes.result _ _ _ (at_of c.args.h) c.value_bytes.ensures.bytes c.in_ok-a.ensures.value
+    (none_stops bytes_of c.value_bytes-2.result _ _ (at_of c.args.h) Refusal.UnsupportedExpression c.value_bytes-2.ensures.bytes c.in_err-b.ensures.value c.refuse-3.ensures c.from_residual-in_err-b.ensures.1))
 
-pub returns-in-Absent-value_bytes-2 : goal.returns-in-Absent-value_bytes-2
-returns-in-Absent-value_bytes-2 c = λ nodes n stack nd. value_stops (compare_no_right _ _ _ _ (at_of c.args.h) _ (wide c.args.l (rw c.in-Found.is at (c.integer_width.ensures nodes))) (rw c.in-Bytes.is at c.value_bytes.ensures.is) (rw c.in-Absent-value_bytes-2.is at c.value_bytes-in-Bytes.ensures.is))
+pub returns-in_err-op : goal.returns-in_err-op
+unfolding lower_compare integer_width value_bytes comparing
+returns-in_err-op c =
+    λ nd. some_meets (λ x. x) c.integer_width.result _ _ _ (at_of c.args.h) (wide c.args.left c.integer_width.ensures) c.in_ok-width.ensures.value
+    (some_meets bytes_of c.value_bytes.result _ _ _ (at_of c.args.h) c.value_bytes.ensures.bytes c.in_ok-a.ensures.value
+    (some_meets bytes_of c.value_bytes-2.result _ _ _ (at_of c.args.h) c.value_bytes-2.ensures.bytes c.in_ok-b.ensures.value
+    (ask_stops Refusal.UnsupportedExpression c.compare_op.result _ c.in_err-op.ensures.value c.refuse-4.ensures c.from_residual-in_err-op.ensures.1
+    (compared_float _ _ _ _ (at_of c.args.h) _ (c.compare_op.ensures ∙ ap (option_map compare_op_of) (none_in c.compare_op.result _ c.in_err-op.ensures.value).0)))))
 
-pub returns-in-Bytes-value_bytes : goal.returns-in-Bytes-value_bytes
-returns-in-Bytes-value_bytes c = λ nodes n stack nd. compare_meets _ _ _ _ (at_of c.args.h) (wide c.args.l (rw c.in-Found.is at (c.integer_width.ensures nodes))) (rw c.in-Bytes.is at c.value_bytes.ensures.is) (rw c.in-Bytes-value_bytes.is at c.value_bytes-in-Bytes.ensures.is) (c.compared.ensures _ n stack c.compare_op.ensures nd)
+pub returns : goal.returns
+unfolding lower_compare integer_width value_bytes comparing
+returns c =
+    λ nd. some_meets (λ x. x) c.integer_width.result _ _ _ (at_of c.args.h) (wide c.args.left c.integer_width.ensures) c.in_ok-width.ensures.value
+    (some_meets bytes_of c.value_bytes.result _ _ _ (at_of c.args.h) c.value_bytes.ensures.bytes c.in_ok-a.ensures.value
+    (some_meets bytes_of c.value_bytes-2.result _ _ _ (at_of c.args.h) c.value_bytes-2.ensures.bytes c.in_ok-b.ensures.value
+    (rw c.bool_value.ensures
+    (does_shows (at_of c.args.h) nd (c.compare.ensures _ (c.compare_op.ensures ∙ ap (option_map compare_op_of) (some_in c.compare_op.result _ c.in_ok-op.ensures.value))) refl
+    (record { head = refl; sound = tt })))))

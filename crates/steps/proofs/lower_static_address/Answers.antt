@@ -1,11 +1,17 @@
 -- `steps::lower_static_address` meets its contract: the address of the storage that the static has.
-use Rattle.steps.proofs.Pointers.{static_missing, static_found, meets_as}
-use Rattle.steps.proofs.Laws.{value_stops}
+use Rattle.std.proofs.Common.{◌∙◌}
+use Rattle.answers.specs.declared.Refusal.{Refusal}
+use Rattle.spec.specs.Select.{lower_static_address}
+use Rattle.tables.specs.Tables.{placed_line}
+use Rattle.tables.proofs.Laws.{nth_static}
 use Rattle.reads.specs.Reading.{at_of}
+use Rattle.steps.proofs.Asks.{none_stops, some_meets}
 use Rattle.steps.proofs.lower_static_address.Goals as goal
 
-pub returns-in-Missing : goal.returns-in-Missing
-returns-in-Missing c = λ nodes stack R nd. value_stops (static_missing _ nodes _ _ _ _ (at_of c.args.h) _ c.static_at.ensures c.in-Missing.is)
+pub returns-in_err-p : goal.returns-in_err-p
+unfolding lower_static_address
+returns-in_err-p c = λ nd. none_stops placed_line c.static_at.result _ _ (at_of c.args.h) Refusal.UnknownPlace (nth_static _ _ _ _ ∙ c.static_at.ensures) c.in_err-p.ensures.value c.refuse.ensures c.from_residual.ensures.1
 
-pub returns-in-Found : goal.returns-in-Found
-returns-in-Found c = λ nodes stack R nd. meets_as (static_found _ nodes _ _ _ _ (at_of c.args.h) _ c.static_at.ensures c.in-Found.is) (c.storage_address.ensures nodes stack R nd)
+pub returns : goal.returns
+unfolding lower_static_address
+returns c = λ nd. some_meets placed_line c.static_at.result _ _ _ (at_of c.args.h) (nth_static _ _ _ _ ∙ c.static_at.ensures) c.in_ok-p.ensures.value (c.storage_address.ensures nd)

@@ -1,15 +1,28 @@
 -- `steps::not_zero` meets its contract: the width first, then the bytes, then the comparison.
-use Rattle.steps.proofs.Laws.{wide, zero_does, zero_no_width, zero_no_bytes}
+use Rattle.std.specs.Prelude.{refl}
+use Rattle.answers.specs.declared.Refusal.{Refusal}
+use Rattle.spec.specs.Operands.{value_bytes}
+use Rattle.spec.specs.Allocation.{integer_width}
+use Rattle.spec.specs.Conversions.{not_zero}
+use Rattle.lir.specs.Abstract.{bytes_of}
+use Rattle.emission.specs.Forms.{comparing_zero}
+use Rattle.reads.specs.Reading.{at_of}
+use Rattle.steps.proofs.Asks.{none_stops, some_meets, does_shows}
+use Rattle.steps.proofs.Laws.{wide}
 use Rattle.steps.proofs.not_zero.Goals as goal
 
-pub not_zero-requires : goal.not_zero-requires
-not_zero-requires c = (rw c.in-Bytes.is at c.value_bytes.ensures.small, c.requires.2)
+pub returns-in_err-width : goal.returns-in_err-width
+unfolding not_zero integer_width
+returns-in_err-width c = λ nd. none_stops (λ x. x) c.integer_width.result _ _ (at_of c.args.h) Refusal.UnsupportedType (wide c.args.v c.integer_width.ensures) c.in_err-width.ensures.value c.refuse.ensures c.from_residual.ensures.1
 
-pub returns-in-Absent : goal.returns-in-Absent
-returns-in-Absent c = λ nodes. record { shown = zero_no_width _ _ (wide c.args.v (rw c.in-Absent.is at (c.integer_width.ensures nodes))) }
+pub returns-in_err-number : goal.returns-in_err-number
+unfolding not_zero integer_width value_bytes
+returns-in_err-number c =
+    λ nd. some_meets (λ x. x) c.integer_width.result _ _ _ (at_of c.args.h) (wide c.args.v c.integer_width.ensures) c.in_ok-width.ensures.value
+    (none_stops bytes_of c.value_bytes.result _ _ (at_of c.args.h) Refusal.UnsupportedExpression c.value_bytes.ensures.bytes c.in_err-number.ensures.value c.refuse-2.ensures c.from_residual-in_err-number.ensures.1)
 
-pub returns-in-Absent-value_bytes : goal.returns-in-Absent-value_bytes
-returns-in-Absent-value_bytes c = λ nodes. record { shown = zero_no_bytes _ _ (wide c.args.v (rw c.in-Found.is at (c.integer_width.ensures nodes))) (rw c.in-Absent-value_bytes.is at c.value_bytes.ensures.is) }
-
-pub returns-in-Bytes : goal.returns-in-Bytes
-returns-in-Bytes c = λ nodes. record { shown = zero_does _ _ (wide c.args.v (rw c.in-Found.is at (c.integer_width.ensures nodes))) (rw c.in-Bytes.is at c.value_bytes.ensures.is) c.not_zero.ensures }
+pub returns : goal.returns
+unfolding not_zero integer_width value_bytes comparing_zero
+returns c =
+    λ nd. some_meets (λ x. x) c.integer_width.result _ _ _ (at_of c.args.h) (wide c.args.v c.integer_width.ensures) c.in_ok-width.ensures.value
+    (some_meets bytes_of c.value_bytes.result _ _ _ (at_of c.args.h) c.value_bytes.ensures.bytes c.in_ok-number.ensures.value (does_shows (at_of c.args.h) nd c.not_zero.ensures refl refl))

@@ -2,4 +2,4 @@
 use Rattle.tables.proofs.placed_in.Goals as goal
 
 pub returns : goal.returns
-returns c = rw (← c.arg-storage.ensures, ← c.arg-offset.ensures, ← c.arg-ty.ensures, ← c.arg-bit.ensures)
+returns c = rw (← c.arg.ensures, ← c.arg-2.ensures, ← c.arg-3.ensures, ← c.arg-4.ensures)

@@ -1,9 +1,11 @@
--- Each test decides the step.
-use borrow.Author.Rules.{rules}
+-- A checked product and a checked sum.
 use native.Mathlib.Omega.{arith}
-use Rattle.text.proofs.Steps.{steps}
-use Prim.Native.Nat.{◌≤◌, ◌*◌, ◌+◌, ◌-◌, ◌^◌}
+use mathlib.Core.Path.{sym}
+use Rattle.text.proofs.Steps.{bad_large, summed}
 use Rattle.text.proofs.digit_step.Goals as goal
 
-pub returns-then-digit-value : goal.returns-then-digit-value
-returns-then-digit-value c = let a = c.args in let h : 2 ^ 64 ≤ a.value * 10 + (a.byte - 48) = omega arith in search (steps, rules)
+pub returns-in_err-checked_mul : goal.returns-in_err-checked_mul
+returns-in_err-checked_mul c = rw c.from_residual-in_err-checked_mul.ensures (bad_large _ _ c.in_ok-digit.digit (sym c.in_ok-digit.ensures) (omega (arith, c.in_err-checked_mul.ensures)))
+
+pub returns : goal.returns
+returns c = summed _ _ _ _ _ c.in_ok-digit.ensures (omega arith) c.in_ok-checked_mul.ensures.1 c.checked_add.ensures

@@ -1,13 +1,9 @@
 -- One byte put, by where it goes.
 use native.Mathlib.Omega.{arith}
-use Rattle.text.specs.Put.{one_in, one_behind, one_at_last}
+use Rattle.text.specs.Put.{sat, one_in, one_behind}
+use Rattle.text.proofs.put.Goals.{then-at-buf, else-at-buf}
 use Rattle.text.proofs.put.Goals as goal
 
-pub returns-then-at-buf : goal.returns-then-at-buf
-returns-then-at-buf c = one_in _ _ _ (omega arith) (omega arith)
-
-pub returns-then-at-lt18446744073709551615 : goal.returns-then-at-lt18446744073709551615
-returns-then-at-lt18446744073709551615 c = one_behind _ _ _ (omega arith) (omega arith) (omega arith)
-
-pub returns-else-at-lt18446744073709551615 : goal.returns-else-at-lt18446744073709551615
-returns-else-at-lt18446744073709551615 c = one_at_last _ _ _ (omega arith) (omega arith) (omega arith)
+pub returns : goal.returns
+unfolding sat
+returns c = elim c.if-at-buf.branch [ then-at-buf w ↦ rw w.buf-is (one_in _ _ _ _ (omega arith) c.saturating_add.ensures) | else-at-buf w ↦ rw w.buf-is (one_behind _ _ _ _ (omega arith) c.saturating_add.ensures w.if-at-buf.false) ]

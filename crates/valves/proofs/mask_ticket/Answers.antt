@@ -1,18 +1,39 @@
--- The answer by its tests, in their order.
-use Rattle.valves.proofs.Answering.{mask_low, mask_high, mask_other, mask_written, mask_faulty}
+-- The answer by the call that gives it.
+use Rattle.valves.proofs.Answering.{because, refuses, too_long, fits, not_eight, is_eight, mask_board, mask_other, mask_faulty, mask_is}
+use borrow.Author.Rules.{rules}
+use Rattle.valves.specs.declared.refusal.Refusal.{Refusal}
 use Rattle.valves.proofs.mask_ticket.Goals as goal
 
-pub returns-then-n-lt1 : goal.returns-then-n-lt1
-returns-then-n-lt1 c = mask_low _ _ _ c.if-n-lt1.true
+pub returns-in_err-board : goal.returns-in_err-board
+returns-in_err-board c =
+    let e = c.in_err-board.ensures in
+    refuses _ _ _ _ c.from_residual.ensures.1 _ (because _ _ _ e.value e.ok_part) (mask_board _ _ _ (rw e.ok_part at c.new.ensures))
 
-pub returns-then-n-gt64 : goal.returns-then-n-gt64
-returns-then-n-gt64 c = mask_high _ _ _ c.if-n-lt1.false c.if-n-gt64.true
+pub returns-in_err-mask : goal.returns-in_err-mask
+returns-in_err-mask c =
+    let n = rw c.in_ok-board.ensures.ok_part at c.new.ensures in
+    let e = not_eight _ _ _ _ c.try_from.ensures.1 c.in_err-mask.ensures.cases in
+    let k = e.1 in
+    refuses _ _ _ _ c.from_residual-in_err-mask.ensures.1 Refusal.BadMask (search rules) (rw (← n) (mask_other _ _ c.in_ok-board.board e.2))
 
-pub returns-then-mask-ne8 : goal.returns-then-mask-ne8
-returns-then-mask-ne8 c = mask_other _ _ _ c.if-n-lt1.false c.if-n-gt64.false c.if-mask-ne8.true
+pub returns-in_err-m : goal.returns-in_err-m
+returns-in_err-m c =
+    let n = rw c.in_ok-board.ensures.ok_part at c.new.ensures in
+    let k = is_eight _ _ _ c.try_from.ensures.1 c.in_ok-mask.ensures.cases in
+    let e = c.in_err-m.ensures in
+    let m = rw (e.ok_part, k.same) at c.mask_map.ensures in
+    refuses _ _ _ _ c.from_residual-in_err-m.ensures.1 _ (because _ _ _ e.value e.ok_part) (rw (← n) (mask_faulty _ _ c.in_ok-board.board k.long m))
 
-pub returns-in-Bits : goal.returns-in-Bits
-returns-in-Bits c = mask_written _ _ _ c.if-n-lt1.false c.if-n-gt64.false c.if-mask-ne8.false _ c.mask_map.ensures _ _ _ c.in-Bits.is c.write.ensures
+pub returns-in_err-write : goal.returns-in_err-write
+returns-in_err-write c =
+    let n = rw c.in_ok-board.ensures.ok_part at c.new.ensures in
+    let k = is_eight _ _ _ c.try_from.ensures.1 c.in_ok-mask.ensures.cases in
+    let m = rw (c.in_ok-m.ensures.ok_part, k.same) at c.mask_map.ensures in
+    rw (← n) (too_long _ _ _ _ c.from_residual-in_err-write.ensures.1 _ _ c.in_err-write.ensures (mask_is _ _ c.in_ok-board.board k.long _ m))
 
-pub returns-in-Faulty : goal.returns-in-Faulty
-returns-in-Faulty c = mask_faulty _ _ _ c.if-n-lt1.false c.if-n-gt64.false c.if-mask-ne8.false _ c.mask_map.ensures c.in-Faulty.is
+pub returns : goal.returns
+returns c =
+    let n = rw c.in_ok-board.ensures.ok_part at c.new.ensures in
+    let k = is_eight _ _ _ c.try_from.ensures.1 c.in_ok-mask.ensures.cases in
+    let m = rw (c.in_ok-m.ensures.ok_part, k.same) at c.mask_map.ensures in
+    rw (← n) (fits _ _ _ _ _ c.in_ok-write.ensures (mask_is _ _ c.in_ok-board.board k.long _ m))

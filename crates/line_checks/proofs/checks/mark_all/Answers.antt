@@ -1,29 +1,31 @@
-use borrow.Author.Rules.{rules}
-use Rattle.line_forms.specs.Classes.{arg_at}
-use Rattle.line_checks.proofs.CheckLaws.{args_start}
-use Rattle.line_forms.proofs.Classed.{classed_rest}
-use Rattle.line_checks.proofs.MarkLaws.{marks_start, marks_next, marks_rest, marks_twice, marks_end, run_deep}
+use mathlib.Core.Path.{refl}
+use Rattle.std.proofs.Common.{arith}
+use Rattle.line_checks.specs.Steps.{args_in}
+use Rattle.line_checks.proofs.CheckLaws.{first_arg, first_in, rest_arg, rest_in}
+use Rattle.line_checks.proofs.MarkLaws.{marks_none, marks_next, marks_stop}
 use Rattle.line_checks.proofs.checks.mark_all.Goals as goal
 
 pub loop-i-init : goal.loop-i-init
-loop-i-init c = marks_start _ _ _ _ _ _ (args_start _ _ _)
+loop-i-init c = marks_none _ _ _
 
-pub returns-then-i-eq4 : goal.returns-then-i-eq4
-returns-then-i-eq4 c = let a = c.args in
-    let l = c.loop-i in
-    let e = classed_rest a.form a.lists.now a.used l.i _ c.if-i-eq4.true c.class_at-class.ensures in
-    run_deep _ _ _ _ _ (marks_rest _ _ _ _ _ _ _ _ _ c.requires.1 l.invariant _ _ (rw e c.mark_run.ensures))
-
-pub returns-in_default : goal.returns-in_default
-unfolding arg_at
-returns-in_default c = run_deep _ _ _ _ _
-    (marks_twice _ _ _ _ _ _ _ _ _ c.requires.1 c.loop-i.invariant _ _
-    c.loop-i-test.true c.mark_at.ensures c.in_default.is)
+pub returns-in_err-most : goal.returns-in_err-most
+unfolding args_in
+returns-in_err-most c =
+    let a = first_arg c.args.form.kind c.args.form.word c.args.numbers.now _ _ _ _ c.split_at.ensures.front c.loop-i-test.true c.class_at-class.ensures in
+    rw c.from_residual.ensures (marks_stop _ _ _ _ _ _ _ _ c.loop-i.invariant a _ (first_in _ _ _ _ c.split_at.ensures.front c.loop-i-test.true) c.in_err-most.ensures)
 
 pub loop-i-preserved : goal.loop-i-preserved
-unfolding arg_at
-loop-i-preserved c = marks_next _ _ _ _ _ _ _ _ _ c.requires.1 c.loop-i.invariant _ _ _
-    c.loop-i-test.true (search rules) c.mark_at.ensures c.in-Deep.is
+loop-i-preserved c =
+    let a = first_arg c.args.form.kind c.args.form.word c.args.numbers.now _ _ _ _ c.split_at.ensures.front c.loop-i-test.true c.class_at-class.ensures in
+    marks_next _ _ _ _ _ _ _ _ c.loop-i.invariant a _ _ refl c.in_ok-most.ensures
 
-pub returns : goal.returns
-returns c = run_deep _ _ _ _ _ (marks_end _ _ _ _ _ _ _ _ _ c.requires.1 c.loop-i.invariant c.loop-i-test.false)
+pub returns-in_err-most-2 : goal.returns-in_err-most-2
+unfolding args_in
+returns-in_err-most-2 c =
+    let a = rest_arg c.args.form.kind c.args.form.word c.args.numbers.now _ _ _ _ c.split_at.ensures.back c.min.ensures c.loop-x-test.true c.class_at-class-then-not-is_empty.ensures in
+    rw c.from_residual-in_err-most-2.ensures (marks_stop _ _ _ _ _ _ _ _ c.loop-x.invariant a _ (rest_in _ _ _ _ c.split_at.ensures.back c.min.ensures c.loop-x-test.true) c.in_err-most-2.ensures)
+
+pub loop-x-preserved : goal.loop-x-preserved
+loop-x-preserved c =
+    let a = rest_arg c.args.form.kind c.args.form.word c.args.numbers.now _ _ _ _ c.split_at.ensures.back c.min.ensures c.loop-x-test.true c.class_at-class-then-not-is_empty.ensures in
+    marks_next _ _ _ _ _ _ _ _ c.loop-x.invariant a _ _ (omega arith) c.in_ok-most-2.ensures

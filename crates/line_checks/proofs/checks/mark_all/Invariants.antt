@@ -1,10 +1,11 @@
-use Prim.Native.Nat.{◌-◌}
-use Rattle.line_forms.specs.Classes.{form_arg, args_of}
-use Rattle.line_checks.proofs.MarkLaws.{Marks}
+use Rattle.std.proofs.Common.{◌+◌}
+use Rattle.std.specs.Prelude.{Some}
+use Rattle.tables.specs.Tables.{tab}
+use Rattle.line_checks.specs.Steps.{arg_in, MarkedDeep}
 use Rattle.line_checks.proofs.checks.mark_all.Given as goal
 
 abbrev pub invariant-loop-i : goal.invariant-loop-i
-invariant-loop-i l = Marks l.initial.rows l.rows l.counts (args_of l.form l.lists l.used) 0 (form_arg l.form l.lists l.used) l.n l.most l.i
+invariant-loop-i l = MarkedDeep l.fn.rows l.rows l.counts (tab (arg_in l.fn.form.kind l.fn.form.word l.numbers) 0 l.i) (Some l.most)
 
-abbrev pub decreases-loop-i : goal.decreases-loop-i
-decreases-loop-i l = l.n - l.i
+abbrev pub invariant-loop-x : goal.invariant-loop-x
+invariant-loop-x l = MarkedDeep l.fn.rows l.rows l.counts (tab (arg_in l.fn.form.kind l.fn.form.word l.numbers) 0 (4 + l.x-index)) (Some l.most)

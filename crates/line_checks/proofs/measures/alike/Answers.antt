@@ -1,5 +1,11 @@
-use Rattle.line_checks.proofs.KeyLaws.{unlike_known}
+use Rattle.line_checks.proofs.MeasureLaws.{alike_here, alike_next, alike_end}
 use Rattle.line_checks.proofs.measures.alike.Goals as goal
 
-pub returns-then-not-known : goal.returns-then-not-known
-returns-then-not-known c = unlike_known _ _ _ _ c.type_number-w.result _ c.known.result c.requires.3 c.type_number-w.ensures c.known.ensures c.if-not-known.true
+pub returns-then-alike_row : goal.returns-then-alike_row
+returns-then-alike_row c = alike_here _ _ _ _ _ _ _ c.loop-k.invariant _ c.loop-k-test.true c.alike_row.ensures c.if-alike_row.true
+
+pub loop-k-preserved : goal.loop-k-preserved
+loop-k-preserved c = alike_next _ _ _ _ _ _ _ c.loop-k.invariant _ c.loop-k-test.true c.alike_row.ensures c.if-alike_row.false
+
+pub returns : goal.returns
+returns c = alike_end _ _ _ _ _ _ _ c.loop-k.invariant c.loop-k-test.false

@@ -1,23 +1,5 @@
-use borrow.Author.Rules.{rules}
-use lib.ListN.{length-set}
-use native.Mathlib.Omega.{arith}
 use Rattle.line_checks.proofs.RowLaws.{put_row}
 use Rattle.line_checks.proofs.rows.put_row.Goals as goal
 
-pub bounds-rows-at-2 : goal.bounds-rows-at-2
-bounds-rows-at-2 c = simp length-set (omega arith)
-
-pub bounds-rows-at-3 : goal.bounds-rows-at-3
-bounds-rows-at-3 c = simp length-set (omega arith)
-
-pub bounds-rows-at-4 : goal.bounds-rows-at-4
-bounds-rows-at-4 c = simp length-set (omega arith)
-
-pub bounds-rows-at-5 : goal.bounds-rows-at-5
-bounds-rows-at-5 c = simp length-set (omega arith)
-
-pub bounds-rows-at-6 : goal.bounds-rows-at-6
-bounds-rows-at-6 c = simp length-set (omega arith)
-
 pub returns : goal.returns
-returns c = search (put_row, rules)
+returns c = put_row c.args.rows.now _ _ c.args.row c.requires.1 c.copy_from_slice.ensures.after

@@ -1,30 +1,17 @@
--- `ticket::reading::read_lines` meets its contract: what is read of the lines so far is what the words hold, and there is room before each line.
-use mathlib.Core.Path.{refl}
-use borrow.Author.Rules.{rules}
-use native.Mathlib.Omega.{arith}
-use Rattle.ticket.proofs.ReadLaws.{ahead_of, lines_begin, lines_next, lines_stopped, lines_over}
+use Rattle.std.proofs.Common.{refl, arith, rules, ap, ◌∙◌}
+use Rattle.ticket.proofs.ReadLaws.{went, lines_begin, lines_next, lines_left}
 use Rattle.ticket.proofs.reading.read_lines.Goals as goal
 
-pub loop-at-init : goal.loop-at-init
-loop-at-init c = (refl, refl, c.none_read-counts.ensures.held _, c.none_read-counts.ensures.keyed _ _, omega (arith, c.none_read-counts.ensures.used), omega (arith, c.none_read-counts.ensures.lines), search rules, lines_begin _ _ _ _ c.none_read-counts.ensures)
+pub loop-reader-init : goal.loop-reader-init
+loop-reader-init c = let b = c.none_read-counts.ensures in
+    (refl, refl, b.held _, b.keyed _ _, omega (arith, b.used), omega (arith, b.lines), search rules, lines_begin _ _ _ _ b)
 
-pub returns-then-not-room : goal.returns-then-not-room
-returns-then-not-room c = record { answer = c.room.ensures.short c.if-not-room.true c.loop-at.invariant.2.few; held = tt }
+pub returns-in_err-counts : goal.returns-in_err-counts
+returns-in_err-counts c = let i = c.loop-reader.invariant in
+    lines_left _ _ _ _ _ _ i.7 _ _ _ c.next_line.result c.map_err.result c.from_residual.result _ _ (rw i.0 at c.next_line.ensures.line) c.map_err.ensures.cases (λ x z q. search rules) c.in_err-counts.was c.from_residual.ensures.1
 
-pub line_at-requires : goal.line_at-requires
-line_at-requires c = (c.loop-at.invariant.2, c.room.ensures.enough c.if-not-room.false, c.loop-at.invariant.3, omega arith, search rules, search rules, search rules, search rules)
-
-pub loop-at-smaller : goal.loop-at-smaller
-loop-at-smaller c = let a = ahead_of _ _ _ _ _ _ _ c.line_at.result _ _ c.line_at.ensures c.in-Behind.is in omega arith
-
-pub loop-at-preserved : goal.loop-at-preserved
-loop-at-preserved c = let a = ahead_of _ _ _ _ _ _ _ c.line_at.result _ _ c.line_at.ensures c.in-Behind.is in (search rules, search rules, a.0, a.1, a.2, omega arith, a.5, lines_next _ _ _ _ _ _ c.loop-at.invariant.7 _ _ c.line_at.result _ _ c.line_at.ensures c.in-Behind.is)
-
-pub returns-in-Stopped : goal.returns-in-Stopped
-returns-in-Stopped c = lines_stopped _ _ _ _ _ _ c.loop-at.invariant.7 _ _ c.line_at.result _ c.line_at.ensures c.in-Stopped.is
-
-pub finish-requires : goal.finish-requires
-finish-requires c = (c.loop-at.invariant.2, omega arith, omega arith)
-
-pub returns : goal.returns
-returns c = lines_over _ _ _ _ _ _ c.loop-at.invariant.7 _ c.loop-at-test.false c.finish.ensures
+pub loop-reader-preserved : goal.loop-reader-preserved
+loop-reader-preserved c = let i = c.loop-reader.invariant in
+    let e = went c.next_line.result c.map_err.result _ _ c.map_err.ensures.cases c.in_ok-counts.was in
+    let a = rw (i.0, e) at c.next_line.ensures.line in
+    (ap (λ x. x.now) c.next_line.ensures.text ∙ i.0, search rules, a.ahead.0, a.ahead.1, a.ahead.2, omega arith, a.ahead.5, lines_next _ _ _ _ _ _ i.7 _ _ _ _ a)

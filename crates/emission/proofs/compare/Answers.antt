@@ -1,7 +1,0 @@
--- `emission::compare` meets its contract: a bit, then the instruction.
-use Rattle.lir.specs.Abstract.{compare_op_of, bytes_of}
-use Rattle.emission.specs.Forms.{does_comparing}
-use Rattle.emission.proofs.compare.Goals as goal
-
-pub returns : goal.returns
-returns c = let a = c.args in λ o e. does_comparing c.allocate_bit_temporary-bit.result.id.0 o (compare_op_of a.op) a.width (bytes_of a.l) (bytes_of a.r) e c.allocate_bit_temporary-bit.ensures c.compare_bytes-counters.ensures

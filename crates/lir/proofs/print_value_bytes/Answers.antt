@@ -1,8 +1,0 @@
--- The line by its parts.
-use Rattle.lir.specs.PutFields.{whole_line, others, field}
-use Rattle.spec.specs.Print.{value_line}
-use Rattle.lir.proofs.print_value_bytes.Goals as goal
-
-pub returns : goal.returns
-unfolding value_line
-returns c = whole_line c.print_bytes-p.ensures (others c.field_number-q.ensures (others (field c.print_bytes-t.ensures) c.field_bytes-e.ensures)) c.put.ensures

@@ -1,9 +1,0 @@
--- `numerics::compare::less` meets its contract: each answer, from its test.
-use Rattle.std.proofs.Common.{le-ltb, lt-ltb}
-use Rattle.numerics.proofs.compare.less.Goals as goal
-
-pub returns-then-x-y : goal.returns-then-x-y
-returns-then-x-y c = rw (lt-ltb _ _ c.if-x-y.true)
-
-pub returns-else-x-y : goal.returns-else-x-y
-returns-else-x-y c = rw (le-ltb _ _ c.if-x-y.false)

@@ -1,0 +1,4 @@
+pub mod Skips
+pub mod Replaced
+pub mod Put
+pub mod Nexts

@@ -1,6 +1,0 @@
-use borrow.Author.Rules.{rules}
-use Rattle.ticket.proofs.AddLaws.{adding}
-use Rattle.ticket.proofs.adding.add_variable.Goals as goal
-
-pub returns : goal.returns
-returns c = search (adding, rules)
