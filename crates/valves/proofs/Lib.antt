@@ -1,5 +1,6 @@
 pub mod Printed
 pub mod Masks
+pub mod Fields
 pub mod Lists
 pub mod Answering
 pub mod Reading

@@ -2,16 +2,16 @@
 use Prim.Native.Nat.{ℕ, suc, ◌+◌, ◌-◌, ◌*◌, ◌%◌, ◌^◌, ◌≤◌, ◌<◌}
 use mathlib.Core.Path.{◌≡◌, refl, sym, ap, ◌∙◌}
 use mathlib.Core.Logic.{◌⊎◌, ⊎_elim}
-use mathlib.Core.List.{List, ◌∷◌, []}
+use mathlib.Core.List.{List, ◌∷◌, ◌++◌, append-nil, append_assoc, []}
 use Rattle.std.specs.Prelude.{Option, None, Some}
 use native.Mathlib.Omega.{arith}
 use native.Mathlib.Nat.{pow-suc, add_assoc, zero-add, add-zero, mod-eq_of_lt}
 use borrow.Author.Tests.{lt-ltb, le-ltb, le-leb, lt-leb}
 use lib.ListN.{length}
-use Rattle.fields.specs.Fields.{fields_from, NumberAt, cons_number, numbers_of}
-use Rattle.fields.proofs.Marks.{fields_start, fields_none, fields_some}
-use Rattle.fields.proofs.Lines.{first_none, first_some}
 use lib.Pow.{pow_mono}
+use Rattle.spec.specs.Text.{split, comma, number}
+use Rattle.fields.specs.Fields.{cons_number, numbers_of}
+use Rattle.valves.proofs.Fields.{At}
 use Rattle.valves.specs.Maps.{list_valves, rising, map_number, when, board_map}
 
 -- ---------------------------------------------------------------- one valve more
@@ -41,61 +41,69 @@ bit_is v h g =
 
 -- ---------------------------------------------------------------- from field to field
 
--- up to p stand valves whose last is `last` and whose number is m
-pub record Passed (N : ℕ) (s : List ℕ) (p last m : ℕ) : Type 0 where
+-- the valves of the fields fs rise up to `last`, and make the number m
+pub record Passed (N last m : ℕ) (fs : List (List ℕ)) : Type 0 where
   pub board : last ≤ N
   pub bound : m < 2 ^ last
-  pub is : board_map N (list_valves s) ≡ onward N last m (numbers_of (fields_from s p))
+  pub is : (more : List (List ℕ)) → board_map N (numbers_of (fs ++ more)) ≡ onward N last m (numbers_of more)
 
-whole : (N : ℕ) (o : Option (List ℕ)) → board_map N o ≡ onward N 0 0 o
+pub passed_none : (N : ℕ) → Passed N 0 0 []
 unfolding board_map
-whole N None = refl
-whole N (Some vs) = rw (zero-add (map_number vs))
+passed_none N = record { board = omega arith; bound = omega arith; is = λ more. whole (numbers_of more) }
+  where
+    whole : (o : Option (List ℕ)) → board_map N o ≡ onward N 0 0 o
+    whole None = refl
+    whole (Some vs) = rw (zero-add (map_number vs))
+
+module _ (N last m : ℕ) (fs : List (List ℕ)) (d : Passed N last m fs) where
+  pub passed_all : Some m ≡ board_map N (numbers_of fs)
+  unfolding numbers_of rising map_number
+  passed_all = sym (ap (λ (l : List (List ℕ)). board_map N (numbers_of l)) (sym (append-nil fs)) ∙ d.is [] ∙ rw (add-zero m))
+
+  module _ (all : List (List ℕ)) (f : List ℕ) (t : At all fs f) where
+    onward_at : board_map N (numbers_of all) ≡ onward N last m (cons_number (number f) (numbers_of t.rest))
+    unfolding numbers_of
+    onward_at = ap (λ (l : List (List ℕ)). board_map N (numbers_of l)) t.is ∙ d.is (f ∷ t.rest)
+
+    pub passed_bad : None ≡ number f → None ≡ board_map N (numbers_of all)
+    passed_bad e = sym (onward_at ∙ rw (← e))
+
+    pub passed_wrong : (v : ℕ) → Some v ≡ number f → (v ≤ last) ⊎ ((last < v) × (N < v)) → None ≡ board_map N (numbers_of all)
+    passed_wrong v e w = sym (onward_at ∙ rw (← e) (onward_not N last m v (numbers_of t.rest) w))
+
+  module _ (f : List ℕ) (v : ℕ) (e : Some v ≡ number f) (h : last < v) (g : v ≤ N) where
+    larger : m + 2 ^ (v - 1) < 2 ^ v
+    larger =
+        let t : v ≡ suc (v - 1) = omega arith in
+        let i : last ≤ v - 1 = omega arith in
+        let k = pow_mono i in
+        let w : 2 ^ v ≡ 2 ^ (v - 1) * 2 = ap (λ (z : ℕ). 2 ^ z) t ∙ pow-suc 2 (v - 1) in
+        omega (arith, d.bound)
+
+    -- the bit is put as the code shifts it
+    pub passed_more : N ≤ 64 → Passed N v (m + 1 * 2 ^ (v - 1) % 18446744073709551616) (fs ++ (f ∷ []))
+    unfolding numbers_of
+    passed_more n =
+        rw (bit_is v (omega arith) (omega arith))
+        (record {
+          board = g;
+          bound = larger;
+          is = λ more. rw (append_assoc fs (f ∷ []) more) (d.is (f ∷ more) ∙ rw (← e) (onward_more N last m v (numbers_of more) h g));
+        })
+
+    pub passed_room : N ≤ 64 → m + 1 * 2 ^ (v - 1) % 18446744073709551616 < 2 ^ 64
+    passed_room n = let i : v ≤ 64 = omega arith in omega (arith, larger, pow_mono i, bit_is v (omega arith) i)
+
+-- ---------------------------------------------------------------- the fields
 
 pub list_empty : (N : ℕ) (s : List ℕ) → length s ≡ 0 → Some 0 ≡ board_map N (list_valves s)
 unfolding list_valves board_map rising map_number
 list_empty N [] e = refl
 list_empty N (b ∷ s) e = absurd (omega arith)
 
-pub passed_none : (N : ℕ) (s : List ℕ) → (length s ≡ 0 → ⊥) → Passed N s 0 0 0
+pub list_is : (s : List ℕ) → (length s ≡ 0 → ⊥) → list_valves s ≡ numbers_of (split comma s)
 unfolding list_valves
-passed_none N [] h = absurd (h refl)
-passed_none N (b ∷ s) h =
-    record {
-      board = omega arith;
-      bound = omega arith;
-      is = rw (fields_start (b ∷ s)) (whole N (numbers_of (fields_from (b ∷ s) 0)));
-    }
+list_is [] h = absurd (h refl)
+list_is (b ∷ s) h = refl
 
-module _ (N : ℕ) (s : List ℕ) (p last m : ℕ) (d : Passed N s p last m) where
-  pub passed_all : length s < p → Some m ≡ board_map N (list_valves s)
-  unfolding numbers_of rising map_number
-  passed_all h = sym (d.is ∙ rw (fields_none s p h, add-zero m))
-
-  pub passed_bad : p ≤ length s → NumberAt s p None → None ≡ board_map N (list_valves s)
-  passed_bad h a = sym (d.is ∙ rw (first_none (fields_from s p) (fields_some s p h) a.answer))
-
-  module _ (v next : ℕ) (a : NumberAt s p (Some (v, next))) where
-    pub passed_wrong : (v ≤ last) ⊎ ((last < v) × (N < v)) → None ≡ board_map N (list_valves s)
-    passed_wrong w = sym (d.is ∙ rw (first_some (fields_from s p) v (fields_from s next) a.answer) (onward_not N last m v (numbers_of (fields_from s next)) w))
-
-    module _ (h : last < v) (g : v ≤ N) where
-      larger : m + 2 ^ (v - 1) < 2 ^ v
-      larger =
-          let t : v ≡ suc (v - 1) = omega arith in
-          let i : last ≤ v - 1 = omega arith in
-          let k = pow_mono i in
-          let w : 2 ^ v ≡ 2 ^ (v - 1) * 2 = ap (λ (z : ℕ). 2 ^ z) t ∙ pow-suc 2 (v - 1) in
-          omega (arith, d.bound)
-
-      -- the bit is put as the code shifts it
-      pub passed_more : N ≤ 64 → Passed N s next v (m + 1 * 2 ^ (v - 1) % 18446744073709551616)
-      passed_more n =
-          rw (bit_is v (omega arith) (omega arith))
-          (record {
-            board = g;
-            bound = larger;
-            is = d.is ∙ rw (first_some (fields_from s p) v (fields_from s next) a.answer) (onward_more N last m v (numbers_of (fields_from s next)) h g);
-          })
-
-pub ruleset list_laws = (list_empty, passed_none, passed_all, passed_bad, passed_wrong, passed_more)
+pub ruleset list_laws = (list_empty, passed_room)

@@ -49,17 +49,15 @@ impl Board {
         if list.is_empty() {
             return Some(0);
         }
-        let mut at = 0;
         let mut last = 0;
         let mut m: u64 = 0;
-        while at <= list.len() {
-            let (v, next) = fields::number(list, at)?;
+        for field in list.split(|byte| *byte == b',') {
+            let v = fields::field_number(field)?;
             if v <= last || self.valves < v {
                 return None;
             }
             m += 1 << (v - 1);
             last = v;
-            at = next;
         }
         Some(m)
     }
