@@ -2,6 +2,7 @@ pub mod Cases
 pub mod Stars
 pub mod Readings
 pub mod Readings02
+pub mod Numbers
 pub mod Raised
 pub mod Bools
 pub mod Lengths
@@ -17,6 +18,7 @@ pub mod RoundTrip
 pub mod Plain
 pub mod ReadingLists
 pub mod ReadingTests
+pub mod ReadingRefers
 pub mod ReadingForms
 pub mod ReadingLines
 pub mod ReadingTypes
@@ -29,6 +31,7 @@ pub mod ReadingTables
 pub mod ReadingPlaced
 pub mod ReadingSums
 pub mod ReadingBools
+pub mod ReadingDepth
 pub mod ReadingTicket
 pub mod CostLogic
 pub mod CostSteps
@@ -45,7 +48,9 @@ pub mod CostTree
 pub mod CostClosed
 pub mod CostBound
 pub mod CostRoom
+pub mod WriteKinds
 pub mod Demand3
+pub mod NodeLines
 pub mod RunLogic
 pub mod RunWords
 pub mod RunLaws
@@ -79,7 +84,22 @@ pub mod RunInstance
 pub mod RunEdges
 pub mod RunEnds
 pub mod RunNested
+pub mod RunPremises
+pub mod RunOrder
+pub mod RunFits
+pub mod NumbersRun
+pub mod TextOrder
+pub mod PlacesShown
+pub mod PlaceBases
+pub mod PlaceParts
+pub mod PlaceOffsets
 pub mod Demand2
+pub mod RunSeen
+pub mod RunDivides
+pub mod RunThere
+pub mod RunMeans
+pub mod RunDefined
+pub mod RunWholeBytes
 pub mod AlikeLogic
 pub mod AlikePairs
 pub mod AlikeReads

@@ -36,7 +36,16 @@ if_node storage x xs = xs
 if_node place x xs = xs
 if_node node x xs = x ∷ xs
 
--- the numbers of a line that refer to a type's parts, and to nodes
+abbrev pub if_place : Field → ℕ → List ℕ → List ℕ
+if_place (between least greatest) x xs = xs
+if_place float_width x xs = xs
+if_place type_part x xs = xs
+if_place type x xs = xs
+if_place storage x xs = xs
+if_place place x xs = x ∷ xs
+if_place node x xs = xs
+
+-- the numbers of a line that refer to a type's parts, to nodes, and to places
 abbrev pub part_values : List Arg → List ℕ
 part_values [] = []
 part_values (a ∷ xa) = if_part a.class a.value (part_values xa)
@@ -44,6 +53,10 @@ part_values (a ∷ xa) = if_part a.class a.value (part_values xa)
 abbrev pub node_values : List Arg → List ℕ
 node_values [] = []
 node_values (a ∷ xa) = if_node a.class a.value (node_values xa)
+
+abbrev pub place_values : List Arg → List ℕ
+place_values [] = []
+place_values (a ∷ xa) = if_place a.class a.value (place_values xa)
 
 -- a line all of whose numbers are parts, or nodes
 pub all_parts : {xa : List Arg} → Args [] (Some type_part) xa → values xa ≡ part_values xa
@@ -53,6 +66,10 @@ all_parts (more x rest) = ap (λ xs. x ∷ xs) (all_parts rest)
 pub all_nodes : {xa : List Arg} → Args [] (Some node) xa → values xa ≡ node_values xa
 all_nodes done = refl
 all_nodes (more x rest) = ap (λ xs. x ∷ xs) (all_nodes rest)
+
+pub no_places : {xa : List Arg} → Args [] (Some node) xa → [] ≡ place_values xa
+no_places done = refl
+no_places (more x rest) = no_places rest
 
 -- ---------------------------------------------------------------- from the text
 

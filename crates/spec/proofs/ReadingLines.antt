@@ -5,10 +5,11 @@ use Rattle.std.specs.Prelude.{Option, None, Some}
 use Rattle.std.proofs.lemmas.Option.{none-some, same_Some}
 use mathlib.Core.Path.{◌≡◌, refl}
 use Rattle.spec.specs.Text.{split, comma}
-use Rattle.spec.specs.Ticket.{TypeWord, t_unit, t_bool, t_bits, t_float, t_pointer, t_array, t_struct, t_tuple, t_opaque, PlaceWord, NodeWord, n_bool, n_int, n_f32, n_f64, n_null, n_static_address, n_function, n_read, n_unary, n_binary, n_funary, n_fbinary, n_compare, n_convert, n_select, n_address, n_offset, n_extract, n_insert, arg}
+use Rattle.spec.specs.Ticket.{TypeWord, t_unit, t_bool, t_bits, t_float, t_pointer, t_array, t_struct, t_tuple, t_opaque, PlaceWord, p_variable, p_static, p_field, p_element, p_offset, NodeWord, n_bool, n_int, n_f32, n_f64, n_null, n_static_address, n_function, n_read, n_unary, n_binary, n_funary, n_fbinary, n_compare, n_convert, n_select, n_address, n_offset, n_extract, n_insert, arg}
 use Rattle.spec.specs.Forms.{Field, between, type, Rule, type_rules, place_rules, node_rules, kind_rules, function_fields, storage_fields, placed_fields, find, Arg, Head, f_line, s_line, v_line, g_line, t_line, p_line, n_line, Line, args_of, type_form, place_form, node_form, Kind, k_f, k_t, k_s, k_v, k_g, k_p, k_n, form_of, line_of, values}
 use Rattle.spec.specs.Readable.{All, type_parts, nodes_of_node, Counted}
-use Rattle.spec.proofs.ReadingForms.{Args, done, next, part_values, node_values, all_parts, all_nodes, args_formed, found}
+use Rattle.spec.proofs.ReadingRefers.{places_of_node, nodes_of_place, places_of_place}
+use Rattle.spec.proofs.ReadingForms.{Args, done, next, part_values, node_values, place_values, all_parts, all_nodes, no_places, args_formed, found}
 
 -- ---------------------------------------------------------------- forms by head
 
@@ -29,10 +30,16 @@ pub record TypeFormed (w : TypeWord) (xa : List Arg) : Type 0 where
   pub width : Width w xa
   pub counted : Counted w (values xa)
 
--- the nodes that a node refers to are its numbers of that class; a `bool` has one number, 0 or 1
+-- the nodes and places that a node refers to are its numbers of those classes; a `bool` has one number, 0 or 1
 pub record NumbersFormed (w : NodeWord) (xa : List Arg) : Type 0 where
   pub nodes : nodes_of_node w (values xa) ≡ node_values xa
+  pub places : places_of_node w (values xa) ≡ place_values xa
   pub of_bool : w ≡ n_bool → xa ≡ record { class = between 0 1; value = arg (values xa) 0 } ∷ []
+
+-- so with a place's numbers
+pub record PlaceFormed (w : PlaceWord) (xa : List Arg) : Type 0 where
+  pub nodes : nodes_of_place w (values xa) ≡ node_values xa
+  pub places : places_of_place w (values xa) ≡ place_values xa
 
 -- a node's TYPE, and then what the word asks for
 pub data NodeFormed (w : NodeWord) : List Arg → Type 0 where
@@ -44,7 +51,7 @@ Formed s_line xa = Args storage_fields None xa
 Formed v_line xa = Args placed_fields None xa
 Formed g_line xa = Args placed_fields None xa
 Formed (t_line w) xa = TypeFormed w xa
-Formed (p_line w) xa = Unit {0}
+Formed (p_line w) xa = PlaceFormed w xa
 Formed (n_line w) xa = NodeFormed w xa
 
 -- ---------------------------------------------------------------- rule by rule
@@ -100,47 +107,47 @@ NodeRule : Rule NodeWord → Type 0
 NodeRule r = (xa : List Arg) → Args r.fields r.rest xa → NumbersFormed r.make xa
 
 node_rules_formed : All NodeRule node_rules
-unfolding All NodeRule nodes_of_node
+unfolding All NodeRule nodes_of_node places_of_node
 node_rules_formed = (
-  λ xa. filled (NumbersFormed n_bool) (λ x. record { nodes = refl; of_bool = λ e. refl }),
+  λ xa. filled (NumbersFormed n_bool) (λ x. record { nodes = refl; places = refl; of_bool = λ e. refl }),
   (
-    λ xa. filled (NumbersFormed n_int) (λ x. record { nodes = refl; of_bool = λ e. cc }),
+    λ xa. filled (NumbersFormed n_int) (λ x. record { nodes = refl; places = refl; of_bool = λ e. cc }),
     (
-      λ xa. filled (NumbersFormed n_f32) (λ x. record { nodes = refl; of_bool = λ e. cc }),
+      λ xa. filled (NumbersFormed n_f32) (λ x. record { nodes = refl; places = refl; of_bool = λ e. cc }),
       (
-        λ xa. filled (NumbersFormed n_f64) (λ x. record { nodes = refl; of_bool = λ e. cc }),
+        λ xa. filled (NumbersFormed n_f64) (λ x. record { nodes = refl; places = refl; of_bool = λ e. cc }),
         (
-          λ xa. filled (NumbersFormed n_null) (record { nodes = refl; of_bool = λ e. cc }),
+          λ xa. filled (NumbersFormed n_null) (record { nodes = refl; places = refl; of_bool = λ e. cc }),
           (
-            λ xa. filled (NumbersFormed n_static_address) (λ x y. record { nodes = refl; of_bool = λ e. cc }),
+            λ xa. filled (NumbersFormed n_static_address) (λ x y. record { nodes = refl; places = refl; of_bool = λ e. cc }),
             (
-              λ xa. filled (NumbersFormed n_function) (λ x. record { nodes = refl; of_bool = λ e. cc }),
+              λ xa. filled (NumbersFormed n_function) (λ x. record { nodes = refl; places = refl; of_bool = λ e. cc }),
               (
-                λ xa. filled (NumbersFormed n_read) (λ x. record { nodes = refl; of_bool = λ e. cc }),
+                λ xa. filled (NumbersFormed n_read) (λ x. record { nodes = refl; places = refl; of_bool = λ e. cc }),
                 (
-                  λ xa. filled (NumbersFormed n_unary) (λ x y. record { nodes = refl; of_bool = λ e. cc }),
+                  λ xa. filled (NumbersFormed n_unary) (λ x y. record { nodes = refl; places = refl; of_bool = λ e. cc }),
                   (
-                    λ xa. filled (NumbersFormed n_binary) (λ x y z. record { nodes = refl; of_bool = λ e. cc }),
+                    λ xa. filled (NumbersFormed n_binary) (λ x y z. record { nodes = refl; places = refl; of_bool = λ e. cc }),
                     (
-                      λ xa. filled (NumbersFormed n_funary) (λ x. record { nodes = refl; of_bool = λ e. cc }),
+                      λ xa. filled (NumbersFormed n_funary) (λ x. record { nodes = refl; places = refl; of_bool = λ e. cc }),
                       (
-                        λ xa. filled (NumbersFormed n_fbinary) (λ x y. record { nodes = refl; of_bool = λ e. cc }),
+                        λ xa. filled (NumbersFormed n_fbinary) (λ x y. record { nodes = refl; places = refl; of_bool = λ e. cc }),
                         (
-                          λ xa. filled (NumbersFormed n_compare) (λ x y z. record { nodes = refl; of_bool = λ e. cc }),
+                          λ xa. filled (NumbersFormed n_compare) (λ x y z. record { nodes = refl; places = refl; of_bool = λ e. cc }),
                           (
-                            λ xa. filled (NumbersFormed n_convert) (λ x y. record { nodes = refl; of_bool = λ e. cc }),
+                            λ xa. filled (NumbersFormed n_convert) (λ x y. record { nodes = refl; places = refl; of_bool = λ e. cc }),
                             (
-                              λ xa. filled (NumbersFormed n_select) (λ x y z. record { nodes = refl; of_bool = λ e. cc }),
+                              λ xa. filled (NumbersFormed n_select) (λ x y z. record { nodes = refl; places = refl; of_bool = λ e. cc }),
                               (
-                                λ xa. filled (NumbersFormed n_address) (λ x. record { nodes = refl; of_bool = λ e. cc }),
+                                λ xa. filled (NumbersFormed n_address) (λ x. record { nodes = refl; places = refl; of_bool = λ e. cc }),
                                 (
-                                  λ xa. filled (NumbersFormed n_offset) (λ x y. record { nodes = refl; of_bool = λ e. cc }),
+                                  λ xa. filled (NumbersFormed n_offset) (λ x y. record { nodes = refl; places = refl; of_bool = λ e. cc }),
                                   (
-                                    λ xa h. record { nodes = all_nodes h; of_bool = λ e. cc },
+                                    λ xa h. record { nodes = all_nodes h; places = no_places h; of_bool = λ e. cc },
                                     (
-                                      λ xa. filled (NumbersFormed n_extract) (λ x y. record { nodes = refl; of_bool = λ e. cc }),
+                                      λ xa. filled (NumbersFormed n_extract) (λ x y. record { nodes = refl; places = refl; of_bool = λ e. cc }),
                                       (
-                                        λ xa. filled (NumbersFormed n_insert) (λ x y z. record { nodes = refl; of_bool = λ e. cc }),
+                                        λ xa. filled (NumbersFormed n_insert) (λ x y z. record { nodes = refl; places = refl; of_bool = λ e. cc }),
                                         tt,
                                       ),
                                     ),
@@ -157,6 +164,28 @@ node_rules_formed = (
               ),
             ),
           ),
+        ),
+      ),
+    ),
+  ),
+)
+
+PlaceRule : Rule PlaceWord → Type 0
+PlaceRule r = (xa : List Arg) → Args r.fields r.rest xa → PlaceFormed r.make xa
+
+place_rules_formed : All PlaceRule place_rules
+unfolding All PlaceRule nodes_of_place places_of_place
+place_rules_formed = (
+  λ xa. filled (PlaceFormed p_variable) (λ x. record { nodes = refl; places = refl }),
+  (
+    λ xa. filled (PlaceFormed p_static) (λ x. record { nodes = refl; places = refl }),
+    (
+      λ xa. filled (PlaceFormed p_field) (λ x y. record { nodes = refl; places = refl }),
+      (
+        λ xa. filled (PlaceFormed p_element) (λ x y. record { nodes = refl; places = refl }),
+        (
+          λ xa. filled (PlaceFormed p_offset) (λ x y. record { nodes = refl; places = refl }),
+          tt,
         ),
       ),
     ),
@@ -187,13 +216,15 @@ type_formed (w ∷ ws) l e = by (find type_rules w) refl
         (λ xa q. found TypeRule type_rules w r type_rules_formed p xa (args_formed r.fields r.rest ws xa q))
 
 place_formed : (ws : List (List ℕ)) (l : Line) → place_form ws ≡ Some l → Formed l.head l.args
-unfolding place_form
+unfolding place_form PlaceRule
 place_formed [] l e = absurd (none-some _ e)
 place_formed (w ∷ ws) l e = by (find place_rules w) refl
   where
     by : (o : Option (Rule PlaceWord)) → find place_rules w ≡ o → Formed l.head l.args
     by None p = absurd (none-some _ (rw p at e))
-    by (Some r) p = behind_formed (p_line r.make) (args_of r.fields r.rest ws) l (rw p at e) (λ xa q. tt)
+    by (Some r) p =
+        behind_formed (p_line r.make) (args_of r.fields r.rest ws) l (rw p at e)
+        (λ xa q. found PlaceRule place_rules w r place_rules_formed p xa (args_formed r.fields r.rest ws xa q))
 
 node_args : (r : Rule NodeWord) (xa : List Arg) → NodeRule r → Args (type ∷ r.fields) r.rest xa → NodeFormed r.make xa
 unfolding NodeRule

@@ -1,5 +1,5 @@
 -- What reading guarantees: the tables of an accepted ticket are readable.
-use Prim.Native.Nat.{ℕ, suc, ◌≤◌}
+use Prim.Native.Nat.{ℕ, suc, ◌+◌, ◌-◌, ◌≤◌}
 use mathlib.Core.Bool.{Bool, true, false}
 use mathlib.Core.List.{List, [], ◌∷◌}
 use Rattle.std.specs.Prelude.{Option, None, Some}
@@ -9,8 +9,8 @@ use borrow.Author.Tests.{eqb-false}
 use lib.Dec.{leb, eqb}
 use lib.ListN.{length}
 use Rattle.spec.specs.Text.{split, line_feed}
-use Rattle.spec.specs.Limits.{text_limit}
-use Rattle.spec.specs.Ticket.{Tables}
+use Rattle.spec.specs.Limits.{text_limit, depth_limit}
+use Rattle.spec.specs.Ticket.{Tables, expr_at}
 use Rattle.spec.specs.Forms.{Line, line_of}
 use Rattle.spec.specs.Read.{Reading, refusal_of, add, Step, stop, go, step, refused, accepted, left_over, at_end, read_lines, start, read_ticket}
 use Rattle.spec.specs.Readable.{All, line_sum, TypesRight, root, Readable}
@@ -22,6 +22,8 @@ use Rattle.spec.proofs.ReadingPlaced.{Placed, placed}
 use Rattle.spec.proofs.ReadingPool.{Pool}
 use Rattle.spec.proofs.ReadingSums.{Sums, summed, pooled}
 use Rattle.spec.proofs.ReadingTree.{root_sum}
+use Rattle.spec.proofs.ReadingLists.{All_map}
+use Rattle.spec.proofs.ReadingDepth.{Depths, deepened, whole}
 use Rattle.spec.proofs.ReadingBools.{Bools, bools_kept, bools_of_root}
 
 -- ---------------------------------------------------------------- the invariant
@@ -34,6 +36,7 @@ pub record Good (R : Reading) : Type 0 where
   pub sums : Sums R
   pub nodes : Pool R.tables.nodes R.used.nodes
   pub bools : Bools R.tables
+  pub depths : Depths R.tables
 
 pub good_start : Good start
 unfolding All line_sum
@@ -58,6 +61,7 @@ good_start =
           };
       nodes = record { marks = refl; right = λ k p. absurd (omega arith); still_open = λ f d. omega arith; each = λ f d k p. absurd (omega arith) };
       bools = tt;
+      depths = record { nodes = tt; places = tt };
     }
 
 pub good_add : (R : Reading) (l : Line) → Formed l.head l.args → refusal_of R l ≡ None → Good R → Good (add R l)
@@ -71,6 +75,7 @@ good_add R l f e g =
       sums = summed R l.head l.args f e g.sums;
       nodes = pooled R l.head l.args f e g.nodes;
       bools = bools_kept R (suc R.lines) l.head l.args f e g.bools;
+      depths = deepened R (suc R.lines) g.depths l.head l.args f e;
     }
 
 -- ---------------------------------------------------------------- the text
@@ -187,3 +192,25 @@ pub bools_read : (s : List ℕ) (T : Tables) → read_ticket s ≡ accepted T �
 bools_read s T e =
     let end = reading_ends s T e in
     rw end.tables_are at (bools_of_root end.state.tables end.good.bools)
+
+-- no line of a place or of a node is deeper than the limit ..
+pub record Shallow (T : Tables) : Type 0 where
+  pub nodes : All (λ n. n.depth ≤ depth_limit) T.nodes
+  pub places : All (λ p. p.depth ≤ depth_limit) T.places
+
+pub shallow : (s : List ℕ) (T : Tables) → read_ticket s ≡ accepted T → Shallow T
+shallow s T e =
+    let end = reading_ends s T e in
+    let d : Shallow end.state.tables = record {
+      nodes = All_map end.state.tables.nodes (λ n h. h.most) end.good.depths.nodes;
+      places = All_map end.state.tables.places (λ p h. h.most) end.good.depths.places;
+    } in
+    rw end.tables_are at d
+
+-- .. so the root's tree is whole: a tree that may be deeper is the same
+pub whole_tree : (s : List ℕ) (T : Tables) → read_ticket s ≡ accepted T → (j : ℕ) → expr_at (j + depth_limit) T (length T.nodes - 1) ≡ root T
+unfolding root
+whole_tree s T e j =
+    let end = reading_ends s T e in
+    let one = end.some_node in
+    rw end.tables_are at (whole end.state.tables end.good.depths j (length end.state.tables.nodes - 1) (omega arith))

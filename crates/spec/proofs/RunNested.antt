@@ -14,7 +14,7 @@ use Rattle.spec.specs.RunCases.{memory, given}
 use Rattle.spec.proofs.RunEnds.{reading_back, left_by}
 
 -- the meaning, where the text is read, rightly typed and in order
-abbrev meaning : Memory → Read → Option Data
+abbrev pub meaning : Memory → Read → Option Data
 meaning M (refused n l) = None
 meaning M (accepted T) = elim (typed T (root T) && in_order T M (root T)) [ true ↦ eval T given M (root T) | false ↦ None ]
 

@@ -32,15 +32,15 @@ use Rattle.spec.specs.RunNeeds.{Placed, NeedsOf}
 
 -- ---------------------------------------------------------------- steps that only answer
 
-abbrev answered : {A : Type 0} → Outcome A → Option A
+abbrev pub answered : {A : Type 0} → Outcome A → Option A
 answered (refused n l) = None
 answered (done a c o) = Some a
 
-abbrev start : Counters
+abbrev pub start : Counters
 start = record { storage = 0; temporary = 0 }
 
 -- the answer x, which has Q, and nothing else
-abbrev QuietAs : {A : Type 0} → (A → Type 0) → Option A → Counters → Outcome A → Type 0
+abbrev pub QuietAs : {A : Type 0} → (A → Type 0) → Option A → Counters → Outcome A → Type 0
 QuietAs Q x c (refused n l) = x ≡ None
 QuietAs Q x c (done a c' o) = (x ≡ Some a) × (c' ≡ c) × (o.instructions ≡ []) × Q a
 
@@ -52,7 +52,7 @@ appended : {A : Type 0} (Q : A → Type 0) (o : Out) (x : Option A) (c : Counter
 appended Q o x c (refused n l) e q = q
 appended Q o x c (done a c' p) e q = (q.0, q.1, ap₂ (λ (i j : List Instruction). i ++ j) e q.2, q.3)
 
-answered_prepend : {A : Type 0} (o : Out) (y : Outcome A) → answered (prepend o y) ≡ answered y
+pub answered_prepend : {A : Type 0} (o : Out) (y : Outcome A) → answered (prepend o y) ≡ answered y
 answered_prepend o (refused n l) = refl
 answered_prepend o (done a c p) = refl
 
@@ -76,12 +76,12 @@ quiet_next {P = P} {Q = Q} {m = m} {f = f} p k = record { is = λ h c. quiet_bou
 quiet_pure : {A : Type 0} {Q : A → Type 0} (a : A) → Q a → Quiet Q (pure a)
 quiet_pure a q = record { is = λ h c. (refl, refl, refl, q) }
 
-quiet_option : {A : Type 0} (n : ℕ) (x : Option A) → Quiet (λ a. x ≡ Some a) (or_refuse n x)
+pub quiet_option : {A : Type 0} (n : ℕ) (x : Option A) → Quiet (λ a. x ≡ Some a) (or_refuse n x)
 unfolding or_refuse
 quiet_option n None = record { is = λ h c. refl }
 quiet_option n (Some a) = quiet_pure a refl
 
-quiet_require : (n : ℕ) (b : Bool) → Quiet (λ _. b ≡ true) (require n b)
+pub quiet_require : (n : ℕ) (b : Bool) → Quiet (λ _. b ≡ true) (require n b)
 unfolding require
 quiet_require n true = quiet_pure tt refl
 quiet_require n false = record { is = λ h c. refl }
@@ -101,16 +101,16 @@ abbrev Any : {A : Type 0} → A → Type 0
 Any a = Unit
 
 module _ (T : Tables) (N : NeedsOf T) where
-  quiet_field : (b : Base) (i : ℕ) → Quiet Any (field_offset T b.word b.args i)
+  pub quiet_field : (b : Base) (i : ℕ) → Quiet Any (field_offset T b.word b.args i)
   unfolding field_offset
   quiet_field b i = quiet_then (quiet_option 21 _) (λ fs _. quiet_then (quiet_option 21 _) (λ ty _. quiet_pure _ tt))
 
-  quiet_element : (b : Base) (e : Expr) → Quiet Any (element_offset T b.word b.args e)
+  pub quiet_element : (b : Base) (e : Expr) → Quiet Any (element_offset T b.word b.args e)
   unfolding element_offset
   quiet_element b e =
       quiet_then (quiet_option 21 _) (λ a _. quiet_then (quiet_option 21 _) (λ i _. quiet_next (quiet_require 21 _) (λ _ _. quiet_pure _ tt)))
 
-  quiet_within : (o : ℕ) → Quiet (λ _. leb o offset_limit ≡ true) (within o)
+  pub quiet_within : (o : ℕ) → Quiet (λ _. leb o offset_limit ≡ true) (within o)
   unfolding within
   quiet_within o = quiet_require 27 _
 
@@ -144,7 +144,7 @@ module _ (T : Tables) (N : NeedsOf T) where
 
 -- ---------------------------------------------------------------- the answer, as a step and as a fact
 
-answer_has : {A : Type 0} (Q : A → Type 0) {a : A} (x : Outcome A) (c : Counters) → QuietAs Q (answered x) c x → answered x ≡ Some a → Q a
+pub answer_has : {A : Type 0} (Q : A → Type 0) {a : A} (x : Outcome A) (c : Counters) → QuietAs Q (answered x) c x → answered x ≡ Some a → Q a
 answer_has Q {a} (refused n l) c q e = absurd (none-some a e)
 answer_has Q {a} (done b d o) c q e = let z : b ≡ a = cc in rw z at q.3
 
