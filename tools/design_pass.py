@@ -215,7 +215,7 @@ def point_7():
 
 
 def point_8():
-    files = glob.glob(os.path.join(ROOT, 'crates/*/proofs/*/Answers.antt')) + glob.glob(os.path.join(ROOT, 'crates/*/proofs/*/*/Answers.antt'))
+    files = glob.glob(os.path.join(ROOT, 'crates/*/proofs/*/**/Answers.antt'), recursive=True)
     answers = sum(len(re.findall(r'^pub [\w-]+ : goal\.', open(f, encoding='utf-8').read(), re.M)) for f in files)
     lines = sum(open(f, encoding='utf-8').read().count('\n') for f in glob.glob(os.path.join(ROOT, 'crates/*/proofs/**/*.antt'), recursive=True) if '/spec/' not in f)
     print(f'8 files of answers: {len(files)}')

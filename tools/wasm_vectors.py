@@ -312,7 +312,7 @@ def main():
     tables += [(f"width {n}", at_width(n)) for n in WIDTHS]
     tables.append(("widths outside 1 to 64", outside()))
     with open(os.path.join(out, "src", "ops.rt"), "w") as f:
-        f.write(MADE + "\n// The operations of each group of answers.rt; a case names group g's operation k by 16 * g + k.\n")
+        f.write(MADE + "\n// The operations of each group of outcomes.rt; a case names group g's operation k by 16 * g + k.\n")
         f.write("\n".join(f"pub const {name.upper()}: u64 = {code % 16};\n" for name, code in CODES.items()))
     with open(os.path.join(out, "stdin"), "w") as f:
         f.writelines(table(name, rows) for name, rows in tables)

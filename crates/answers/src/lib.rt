@@ -10,6 +10,7 @@ use std::fmt;
 pub trait Numbered {
     ghost number_of: { Self → ℕ };
 
+    // The numbers are the format's, and two reasons may share one, as two of figures share 41: so each enum has a match, and no discriminants.
     fn number(&self) -> u64
         ensures { result ≡ number_of self.now };
 }
@@ -41,6 +42,7 @@ pub enum Refusal {
 impl Numbered for Refusal {
     ghost number_of = { refusal_number };
 
+    // The format's numbers, which leave out some.
     fn number(&self) -> u64 {
         match self {
             Refusal::LongText => 1,

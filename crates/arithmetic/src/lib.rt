@@ -73,12 +73,12 @@ pub fn lower_integer_unary(
     v: Value,
     h: At,
 ) -> Result<Value, Refused<Refusal>>
-    requires { (Sound_value v) × (StepRoom (ticket_of tables.now) h.node.0 h.ty l.old) }
-    ensures { MeetsValue l.old (lower_integer_unary (ticket_of tables.now) (ticket.integer_unary_op op) (flat_of (head_of v)) h.ty (at_of h) (counters_in l.old)) l.new result }
+    requires { (Sound_value v) × (StepRoom (ticket_of tables.now.lines) h.node.0 h.ty l.old) }
+    ensures { MeetsValue l.old (lower_integer_unary (ticket_of tables.now.lines) (ticket.integer_unary_op op) (flat_of (head_of v)) h.ty (at_of h) (counters_in l.old)) l.new result }
 {
     let input = steps::value_bytes(v).ok_or(h.refuse(Refusal::UnsupportedExpression))?;
     let to = steps::byte_temporary(tables, &mut l.out, h)?;
-    let width = steps::integer_width(tables, h.ty);
+    let width = steps::integer_width(&tables.lines, h.ty);
     l.out
         .unary_instructions(unary_form(op), width, to, input)
         .map_err(|r| h.refuse(r))?;
@@ -94,13 +94,13 @@ pub fn lower_integer_binary(
     right: Value,
     h: At,
 ) -> Result<Value, Refused<Refusal>>
-    requires { (Sound_value left) × (Sound_value right) × (StepRoom (ticket_of tables.now) h.node.0 h.ty l.old) }
-    ensures { MeetsValue l.old (lower_integer_binary (ticket_of tables.now) (ticket.integer_binary_op op) (flat_of (head_of left)) (flat_of (head_of right)) h.ty (at_of h) (counters_in l.old)) l.new result }
+    requires { (Sound_value left) × (Sound_value right) × (StepRoom (ticket_of tables.now.lines) h.node.0 h.ty l.old) }
+    ensures { MeetsValue l.old (lower_integer_binary (ticket_of tables.now.lines) (ticket.integer_binary_op op) (flat_of (head_of left)) (flat_of (head_of right)) h.ty (at_of h) (counters_in l.old)) l.new result }
 {
     let left = steps::value_bytes(left).ok_or(h.refuse(Refusal::UnsupportedExpression))?;
     let right = steps::value_bytes(right).ok_or(h.refuse(Refusal::UnsupportedExpression))?;
     let to = steps::byte_temporary(tables, &mut l.out, h)?;
-    let width = steps::integer_width(tables, h.ty);
+    let width = steps::integer_width(&tables.lines, h.ty);
     let operands = Operands { to, left, right };
     l.out
         .binary_instructions(binary_form(op), width, operands)

@@ -1,7 +1,8 @@
 -- The answer to every input and every lent output, and what the output then holds.
 use Rattle.std.specs.Prelude.{ℕ, ◌%◌, ◌≤◌, ◌≡◌, Bool, true, false, List, eqb, leb, length}
 use Rattle.std.specs.Prelude.{Result, Ok, Err, OnOk, IfErr}
-use Rattle.spec.specs.Answer.{Answer, refused, accepted, left_in}
+use Rattle.spec.specs.Answer.{Answer, refused, accepted}
+use Rattle.answers.specs.Answers.{told_by, AnswersBy}
 use Rattle.answers.specs.declared.Refused.{Refused}
 use Rattle.blocks.specs.Blocks.{block_length, transposed, transposed_back}
 use Rattle.blocks.specs.declared.Refusal.{Refusal}
@@ -26,8 +27,7 @@ refusal_number Short = 40
 
 -- the code's answer: a length, or a refusal's number and line
 abbrev pub outcome : Result ℕ (Refused Refusal) → Result ℕ (ℕ × ℕ)
-outcome (Ok n) = Ok n
-outcome (Err e) = Err (refusal_number e.refusal, e.line)
+outcome = told_by refusal_number
 
 -- of what is accepted the code tells the length
 abbrev pub told : Answer → Result ℕ (ℕ × ℕ)
@@ -35,9 +35,8 @@ told (refused n l) = Err (n, l)
 told (accepted ys) = Ok (length ys)
 
 -- the answer is settled, and so is every byte of the output
-pub record Answers (f : List ℕ → List ℕ) (input output output' : List ℕ) (r : Result ℕ (Refused Refusal)) : Type 0 where
-  pub answered : outcome r ≡ told (answer f input (length output))
-  pub left : output' ≡ left_in (answer f input (length output)) output
+abbrev pub Answers : (List ℕ → List ℕ) → List ℕ → List ℕ → List ℕ → Result ℕ (Refused Refusal) → Type 0
+Answers f input output = AnswersBy refusal_number (answer f input (length output)) output
 
 -- what each way makes of an input
 abbrev pub turned : Direction → List ℕ → List ℕ

@@ -23,6 +23,7 @@ pub enum Refusal {
 impl Numbered for Refusal {
     ghost number_of = { refusal_number };
 
+    // The format's numbers, by a match as for every enum of refusals (see `Numbered`).
     fn number(&self) -> u64 {
         match self {
             Refusal::Uneven => 39,

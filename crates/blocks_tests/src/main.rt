@@ -11,6 +11,7 @@ use answers::{Numbered, Refused};
 use blocks::Refusal;
 use std::io::{self, Read};
 
+// The call is its number in a case's head: one match, and an enum would be one more match of as many arms.
 fn answer(call: u64, input: &[u8], output: &mut [u8]) -> Result<usize, Refused<Refusal>>
     ensures { Answers (turned call) input.now output.old output.new result }
 {
@@ -21,7 +22,7 @@ fn answer(call: u64, input: &[u8], output: &mut [u8]) -> Result<usize, Refused<R
     }
 }
 
-// The answer's number and line, or the length that was accepted.
+// The answer's number and line, or the length that was accepted. They are numbers as in the head, where 0 stands for no refusal.
 fn answered(number: u64, line: u64, length: usize, answer: Result<usize, Refused<Refusal>>) -> bool
     ensures { result ≡ fits number line length (outcome answer) }
 {
@@ -56,22 +57,17 @@ fn replay<R: Read>(reader: &mut R) -> Option<bool> {
     let mut input = [0; 320];
     let mut output = [0; 320];
     let mut expected = [0; 320];
-    let length = length as usize;
     let room = room as usize;
-    if !cases::read(reader, &mut input, length) || !cases::read(reader, &mut expected, room) {
+    let Some(input) = cases::read(reader, &mut input, length as usize) else {
         return Some(false);
-    }
-    if output.len() < room {
+    };
+    let Some(expected) = cases::read(reader, &mut expected, room) else {
         return Some(false);
-    }
-    Some(holds(
-        call,
-        number,
-        line,
-        cases::first(&input, length),
-        &mut output[..room],
-        cases::first(&expected, room),
-    ))
+    };
+    let Some(output) = output.get_mut(..room) else {
+        return Some(false);
+    };
+    Some(holds(call, number, line, input, output, expected))
 }
 
 fn main(rt: HostRuntime) -> io::Result<()> {

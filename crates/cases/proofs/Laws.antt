@@ -1,20 +1,34 @@
--- A line's numbers one by one, a buffer filled and looked at byte by byte, and a refusal's line as it is printed.
-use Rattle.std.proofs.Common.{◌≡◌, ℕ, zero, suc, ◌+◌, ◌/◌, ◌%◌, ◌^◌, ◌≤◌, ◌<◌, Bool, true, false, ◌&&◌, List, [], ◌∷◌, ◌++◌, Option, None, Some, length, replicate, get_or, take, drop, set, refl, sym, ap, ◌∙◌, append_assoc, append-nil, length-append, length-take, length-set, ⊎_elim, drop-cons, add-one, eqb, leb, ne_eqb, eq-eqb, arith, eqb-true}
+-- What a reader gave, a line's numbers one by one, a buffer filled and looked at byte by byte, and a refusal's line as it is printed.
+use Rattle.std.proofs.Common.{◌≡◌, ℕ, zero, suc, ◌+◌, ◌/◌, ◌%◌, ◌^◌, ◌≤◌, ◌<◌, Bool, true, false, ◌&&◌, List, [], ◌∷◌, ◌++◌, Option, None, Some, length, replicate, get_or, take, drop, set, refl, sym, ap, ◌∙◌, append_assoc, append-nil, length-append, length-take, length-set, ⊎_elim, drop-cons, add-one, eqb, leb, ne_eqb, eq-eqb, arith, eqb-true, add-zero, zero-add, length-drop, length-take-le, Result, Ok, Err}
 use Rattle.std.proofs.Math.Nat.{pow-suc}
 use Rattle.std.proofs.lemmas.List.FromFn.{fill_by_all, length-map-range_with_len, get_or-map-range_with_len}
 use Rattle.std.proofs.Math.Seq.{take-suc-set, take_all, length-sets, sets-eq, take_at}
-use Rattle.std.proofs.lemmas.List.{drop_all, length-replicate}
+use Rattle.std.proofs.lemmas.List.{drop_all, length-replicate, get_or-take}
 use Rattle.std.proofs.lemmas.Bool.{cases_lt}
+use Rattle.std.specs.List.{enumerate_from, list_all}
+use Rattle.std.specs.Option.{ok_or}
+use Rattle.std.specs.Io.KnownBytes.{Consumes}
+use Rattle.std.specs.Fn.{Once, FnOnceReturnsAtMut}
+use Rattle.std.specs.Borrow.{MutBor}
 use Rattle.spec.specs.Text.{bytes, fields, line, digits, same, split, comma, line_feed, number}
 use Rattle.spec.proofs.Digits.{by_digits, digits_one, digits_more}
 use Rattle.spec.specs.Answer.{Answer, refused, accepted}
-use Rattle.fields.specs.Fields.{fields_from, numbers_of, cons_number, onto, NumberAt}
+use Rattle.fields.specs.Fields.{fields_from, numbers_of, cons_number, onto, NumberAt, index}
 use Rattle.fields.proofs.Marks.{fields_start, fields_none, fields_some}
 use Rattle.fields.proofs.Lines.{first_none, first_some, both_true}
 use Rattle.text.specs.Put.{Put, sat_below}
 use Rattle.text.specs.Writes.{Writes, writes_then}
 use Rattle.text.specs.declared.writer.Writer.{Writer}
-use Rattle.cases.specs.Cases.{exactly, mark, filling, kept, refusal, Printed, Refuses, Accepts, Right}
+use Rattle.answers.specs.declared.Refused.{Refused}
+use Rattle.cases.specs.declared.Broken.{Broken}
+use Rattle.cases.specs.Cases.{exactly, GivesLine, GivesBlock, Unended, BadLine, BadBlock, LineHead, BlockHead, mark, filling, kept, refusal, Printed, Refuses, Accepts, Right, Judges, HoldsWithin}
+
+-- ---------------------------------------------------------------- what a reader gave
+
+-- the bytes given so far stand in front of a line, and no line feed is among them
+pub record Taking (known known' : Option (List ℕ)) (line : List ℕ) (n : ℕ) : Type 0 where
+  pub given : Consumes known known' (take n line)
+  pub unended : Unended line n
 
 -- ---------------------------------------------------------------- a head's numbers
 
@@ -81,6 +95,46 @@ module _ {s ns : List ℕ} {n i p : ℕ} (g : Heading s ns n i p) where
 
 pub ruleset heading = (heading_none, heading_more, heading_broken, heading_end, heading_rest)
 
+-- what was read is a head, or none
+module _ {known known' : Option (List ℕ)} (s : List ℕ) {count : ℕ} (b : Broken) {got : Option (Result ℕ Broken)} where
+  pub head_line : (n : ℕ) (o : Option (List ℕ)) (r : Result (List ℕ) Broken) → GivesLine known known' s got → got ≡ Some (Ok n)
+      → o ≡ exactly count (numbers_of (split comma (take n s))) → r ≡ ok_or o b → LineHead known known' count (Some r)
+  head_line n None r g h e f = let l = rw h at g in rw f (record { given = tt; over = λ z. cc; broken = BadLine.other (take n s) l.given (sym e) })
+  head_line n (Some ns) r g h e f = let l = rw h at g in rw f (record { given = (take n s, l.given, sym e); over = λ z. cc; broken = tt })
+
+  pub head_cut : 0 < length s → GivesLine known known' s got → got ≡ Some (Err b) → LineHead known known' count (Some (Err b))
+  head_cut h g i =
+      let l = rw i at g in
+      let n = l.broken.0 in
+      let c = l.broken.1 in
+      let m : length (take n s) ≡ n = length-take-le n s c.long in
+      record {
+        given = tt;
+        over = λ z. cc;
+        broken = BadLine.cut (take n s) c.given (omega (arith, c.some h)) (λ k j e. c.unended k (omega arith) (sym (get_or-take n s k 0 (omega arith)) ∙ e));
+      }
+
+  -- and so is a block
+  module _ {size : ℕ} (h : length s ≡ size) where
+    pub head_block : (n : ℕ) (o : Option (List ℕ)) (r : Result (List ℕ) Broken) → GivesBlock known known' s got → got ≡ Some (Ok n)
+        → o ≡ exactly count (numbers_of (split comma (take n s))) → r ≡ ok_or o b → BlockHead known known' size count (Some r)
+    head_block n None r g i e f =
+        let l = rw i at g in
+        let j : n ≡ index line_feed s = l.long.here ∙ rw zero-add in
+        rw f (record { given = tt; over = λ z. cc; broken = BadBlock.other s h l.given (rw (← j) (sym e)) })
+    head_block n (Some ns) r g i e f =
+        let l = rw i at g in
+        let j : n ≡ index line_feed s = l.long.here ∙ rw zero-add in
+        rw f (record { given = (s, h, l.given, rw (← j) (sym e)); over = λ z. cc; broken = tt })
+
+    pub block_cut : GivesBlock known known' s got → got ≡ Some (Err b) → BlockHead known known' size count (Some (Err b))
+    block_cut g i =
+        let l = rw i at g in
+        let n = l.broken.0 in
+        let c = l.broken.1 in
+        let m : length (take n s) ≡ n = length-take-le n s (omega (arith, c.short)) in
+        record { given = tt; over = λ z. cc; broken = BadBlock.cut (take n s) c.given (omega (arith, c.some)) (omega (arith, c.short)) }
+
 -- ---------------------------------------------------------------- a buffer
 
 pub filled : (l : List ℕ) (n : ℕ) → length l ≡ n → ((k : ℕ) → k < n → get_or l k 0 ≡ mark k) → l ≡ filling n
@@ -115,6 +169,30 @@ module _ (l : List ℕ) (i : ℕ) where
 
   pub kept_more : i < length l → get_or l i 0 ≡ mark i → kept l i ≡ kept l (i + 1)
   kept_more h e = there h ∙ rw (eq-eqb (get_or l i 0) (mark i) e)
+
+-- a byte with its place is as it was filled
+abbrev pub is_marked : ℕ × ℕ → Bool
+is_marked p = eqb p.1 (mark p.0)
+
+-- every byte from a place on
+all_kept : (l : List ℕ) (i : ℕ) (xs : List ℕ) → drop i l ≡ xs → list_all is_marked (enumerate_from i xs) ≡ kept l i
+all_kept l i [] e = sym (kept_end l i (let n : length (drop i l) ≡ 0 = ap length e in omega (arith, length-drop i l)))
+all_kept l i (x ∷ xs) e =
+    let n : length (drop i l) ≡ suc (length xs) = ap length e in
+    let h : i < length l = omega (arith, length-drop i l) in
+    let c : drop i l ≡ get_or l i 0 ∷ drop (suc i) l = drop-cons l i 0 h in
+    let d : get_or l i 0 ∷ drop (suc i) l ≡ x ∷ xs = sym c ∙ e in
+    let v : get_or l i 0 ≡ x = cc in
+    let w : drop (i + 1) l ≡ xs = rw add-one (cc) in
+    rw (there l i h, v, all_kept l (i + 1) xs w)
+
+drop_enumerate : (k n : ℕ) (xs : List ℕ) → drop k (enumerate_from n xs) ≡ enumerate_from (n + k) (drop k xs)
+drop_enumerate zero n xs = rw add-zero
+drop_enumerate (suc k) n [] = refl
+drop_enumerate (suc k) n (x ∷ xs) = let e : n + 1 + k ≡ n + suc k = omega arith in drop_enumerate k (n + 1) xs ∙ rw e
+
+pub kept_all : (l : List ℕ) (i : ℕ) (r : Bool) → r ≡ list_all is_marked (drop i (enumerate_from 0 l)) → r ≡ kept l i
+kept_all l i r h = h ∙ rw (drop_enumerate i 0 l, zero-add) (all_kept l i (drop i l) refl)
 
 -- ---------------------------------------------------------------- a refusal's line
 
@@ -189,3 +267,18 @@ module _ {a : Answer} {e : List ℕ} where
   -- a case that fails says nothing
   pub right_not : Right a e false
   right_not = record { so = λ t. absurd (let z : ◌≡◌ {A = ℕ} 0 1 = cc in omega arith) }
+
+-- ---------------------------------------------------------------- a part that is lent
+
+module _ {F : Type 0} {g : Once F (MutBor (List ℕ) × Unit {0}) (Bool × (MutBor (List ℕ) × Unit {0}))} {f : F} where
+  pub within_so : (room : ℕ) (part part' : List ℕ) (r : Bool) → length part ≡ room → FnOnceReturnsAtMut g f part true part' → HoldsWithin g f room r
+  within_so room part part' r n h = record { so = λ t. (part, part', n, h) }
+
+-- ---------------------------------------------------------------- an answer judged
+
+-- what an answer shows, of a length and of a refusal, is what is judged
+pub right_judged : {R : Type 0} (number_of : R → ℕ) (show : Result ℕ (Refused R) → List ℕ → Answer) (o : Result ℕ (Refused R)) (b : List ℕ) {a : Answer} {e : List ℕ} {r : Bool}
+    → ((n : ℕ) → show (Ok n) b ≡ accepted (take n b)) → ((x : Refused R) → show (Err x) b ≡ refused (number_of x.refusal) x.line)
+    → Judges number_of o e b r → show o b ≡ a → Right a e r
+right_judged number_of show (Ok n) b k h j q = right_accepted j (sym (k n) ∙ q)
+right_judged number_of show (Err x) b k h j q = right_refused j (sym (h x) ∙ q)

@@ -2,13 +2,14 @@
 // and the count of what ran and failed.
 #![tactic(auto)]
 
-ghost use Rattle.std.specs.Prelude.{◌≡◌, true, ◌≤◌, length, take};
+ghost use Rattle.std.specs.Prelude.{◌≡◌, ◌≤◌, length, IfSome};
 ghost use Rattle.spec.specs.Text.{same as same_of, split, comma};
 ghost use Rattle.fields.specs.Fields.{numbers_of};
-ghost use Rattle.cases.specs.Cases.{exactly, GivesLine, GivesBlock, LineHead, BlockHead, Gives, mark as mark_of, filling, kept, refusal, Printed, Refuses, Accepts};
+ghost use Rattle.cases.specs.Cases.{exactly, Gives, GivesByte, GivesFirst, GivesLine, GivesBlock, LineHead, BlockHead, mark as mark_of, filling, kept, refusal, Printed, Refuses, Accepts, Judges, HoldsWithin};
 
 mod tally;
 
+use answers::{Numbered, Refused};
 use std::io::Read;
 pub use tally::Tally;
 use text::writer::Writer;
@@ -17,52 +18,62 @@ use text::writer::Writer;
 #[derive(Clone, Copy, Debug, PartialEq, Eq)]
 pub struct Broken;
 
-/// Whether as many bytes were there to read.
-pub fn read<R: Read>(reader: &mut R, bytes: &mut [u8], n: usize) -> bool
-    ensures { result ≡ true → Gives (R.remaining reader.old) (R.remaining reader.new) bytes.new n }
+/// The next n bytes, in front of `bytes`; `None` where there are not as many, or no room for them.
+pub fn read<'a, R: Read>(reader: &mut R, bytes: &'a mut [u8], n: usize) -> Option<&'a [u8]>
+    ensures { IfSome result (λ b. Gives (R.remaining reader.old) (R.remaining reader.new) (length bytes.old) n b.now) }
 {
-    if bytes.len() < n {
-        return false;
-    }
-    reader.read_exact(&mut bytes[..n]).is_ok()
+    let part = bytes.get_mut(..n)?;
+    reader.read_exact(part).ok()?;
+    Some(part)
 }
 
-/// The first n bytes, or all where there are fewer.
-pub fn first(bytes: &[u8], n: usize) -> &[u8]
-    ensures { result.now ≡ take n bytes.now }
+// The next byte, or `None` at the end; a read that fails is the end too.
+fn next_byte<R: Read>(reader: &mut R) -> Option<u8>
+    ensures { GivesByte (R.remaining reader.old) (R.remaining reader.new) result }
 {
-    bytes.get(..n).unwrap_or(bytes)
+    let mut byte = [0];
+    match reader.read(&mut byte) {
+        Ok(1) => Some(byte[0]),
+        _ => None,
+    }
 }
 
 /// The next line as many bytes in front of `line`, or `None` at the end. A byte at a time, so that nothing behind the line is taken.
 pub fn read_line<R: Read>(reader: &mut R, line: &mut [u8]) -> Option<Result<usize, Broken>>
     ensures { GivesLine (R.remaining reader.old) (R.remaining reader.new) line.new result }
 {
-    for n in 0..line.len() {
-        let mut byte = [0];
-        if reader.read_exact(&mut byte).is_err() {
-            return if n == 0 { None } else { Some(Err(Broken)) };
+    for (n, slot) in line.iter_mut().enumerate() {
+        match next_byte(reader) {
+            Some(b'\n') => return Some(Ok(n)),
+            Some(byte) => *slot = byte,
+            None => return if n == 0 { None } else { Some(Err(Broken)) },
         }
-        if byte[0] == b'\n' {
-            return Some(Ok(n));
-        }
-        line[n] = byte[0];
     }
     Some(Err(Broken))
+}
+
+// As many bytes as there are, up to the length of `bytes`. Byte by byte, since `read_exact` tells nothing of what it took where it fails.
+fn read_first<R: Read>(reader: &mut R, bytes: &mut [u8]) -> usize
+    ensures { GivesFirst (R.remaining reader.old) (R.remaining reader.new) bytes.new result }
+{
+    for (n, slot) in bytes.iter_mut().enumerate() {
+        match next_byte(reader) {
+            Some(byte) => *slot = byte,
+            None => return n,
+        }
+    }
+    bytes.len()
 }
 
 // The line in front of a block, with line feeds behind it, as many bytes, or `None` at the end.
 fn read_block<R: Read>(reader: &mut R, block: &mut [u8]) -> Option<Result<usize, Broken>>
     ensures { GivesBlock (R.remaining reader.old) (R.remaining reader.new) block.new result }
 {
-    let (first, rest) = block.split_at_mut_checked(1)?;
-    if reader.read_exact(first).is_err() {
-        return None;
+    match read_first(reader, block) {
+        0 => None,
+        n if n < block.len() => Some(Err(Broken)),
+        _ => Some(Ok(fields::find(block, 0, b'\n'))),
     }
-    if reader.read_exact(rest).is_err() {
-        return Some(Err(Broken));
-    }
-    Some(Ok(fields::find(block, 0, b'\n')))
 }
 
 /// A line's numbers, if it is `N` of them.
@@ -105,8 +116,9 @@ pub fn block_head<const N: usize, R: Read>(
     if line.len() < size {
         return Some(Err(Broken));
     }
-    match read_block(reader, &mut line[..size])? {
-        Ok(n) => Some(numbers_in(&line[..n]).ok_or(Broken)),
+    let block = &mut line[..size];
+    match read_block(reader, block)? {
+        Ok(n) => Some(numbers_in(&block[..n]).ok_or(Broken)),
         Err(e) => Some(Err(e)),
     }
 }
@@ -114,9 +126,10 @@ pub fn block_head<const N: usize, R: Read>(
 /// Runs the cases of an input, as far as `next` tells of one whether it held; a million at most.
 pub fn run<R: Read, F: FnMut(&mut R) -> Option<bool>>(reader: &mut R, mut next: F) -> Tally
     requires { F.IsAlwaysCallable next }
-    ensures { result.ran ≤ 1000000 }
+    ensures ran { result.ran ≤ 1000000 }
+    ensures failed { result.failed ≤ result.ran }
 {
-    let mut tally = Tally::new();
+    let mut tally = Tally::default();
     for _ in 0..1_000_000u64 {
         let Some(held) = next(reader) else {
             break;
@@ -149,15 +162,12 @@ pub fn fill(buffer: &mut [u8])
 pub fn untouched(buffer: &[u8], from: usize) -> bool
     ensures { result ≡ kept buffer.now from }
 {
-    for i in from..buffer.len() {
-        if buffer[i] != mark(i) {
-            return false;
-        }
-    }
-    true
+    let mut rest = buffer.iter().enumerate().skip(from);
+    rest.all(|(i, byte)| *byte == mark(i))
 }
 
-// The line of a refusal, and its length.
+// The line of a refusal, and its length. `Refused` has this text as its `Display`, but what a `write!` wrote is known only where it is
+// `Ok`, and no contract says that it is. Here and below a refusal is its number and line, since that is all that the crates' enums share.
 fn print_refusal(shown: &mut [u8], number: u64, line: u64) -> usize
     requires { 64 ≤ length shown.old }
     ensures { Printed number line shown.new result }
@@ -195,4 +205,30 @@ pub fn accepted(n: usize, expected: &[u8], buffer: &[u8]) -> bool
         return false;
     }
     fields::same(&buffer[..n], expected) && untouched(buffer, n)
+}
+
+/// Whether an answer is the one expected, of a call that was lent a filled buffer.
+pub fn judged<R: Numbered + Drop>(
+    answer: Result<usize, Refused<R>>,
+    expected: &[u8],
+    buffer: &[u8],
+) -> bool
+    ensures { Judges R.number_of answer expected.now buffer.now result }
+{
+    match answer {
+        Ok(n) => accepted(n, expected, buffer),
+        Err(e) => refused(e.refusal.number(), e.line, expected, buffer),
+    }
+}
+
+/// Whether a case holds that is lent the first `room` bytes of a buffer, and the others stay as they are.
+pub fn within<F: FnOnce(&mut [u8]) -> bool>(buffer: &mut [u8], room: usize, holds: F) -> bool
+    requires { F.IsAlwaysCallable holds }
+    ensures { HoldsWithin F.FnOnce holds room result }
+{
+    if buffer.len() < room {
+        return false;
+    }
+    fill(buffer);
+    holds(&mut buffer[..room]) && untouched(buffer, room)
 }

@@ -7,11 +7,9 @@ use mathlib.Core.Logic.{◌⊎◌, inl, inr, ⊎_elim}
 use mathlib.Core.List.{List}
 use native.Mathlib.Omega.{arith}
 use native.Mathlib.Numerals.{add-one}
-use borrow.Author.Count.{below_more}
-use lib.Dec.{leb, ltb}
-use borrow.Author.Tests.{lt-leb, ltb-true, ltb-false}
-use lib.ListN.{length, take, drop, get_or, set, length-set, length-drop, get_or-eq_default}
-use lib.Seq.{get_or-set_same, get_or-set_other, take_all}
+use lib.Dec.{leb}
+use borrow.Author.Tests.{lt-leb}
+use lib.ListN.{length}
 use Rattle.spec.specs.Limits.{text_limit, weight_sum_limit}
 use Rattle.spec.specs.Ticket.{NodeLine, Tables}
 use Rattle.spec.specs.Readable.{Readable, line_sum}

@@ -15,17 +15,19 @@ ghost use Rattle.sections.specs.Sections.{all_weights};
 use answers::{Refusal, Refused};
 use line_checks::keys::key_lines;
 use line_checks::limits;
-use tables::Tables;
+use sections::Lent;
+use tables::{Lines, Tables};
 use ticket::ReadError;
 use ticket::reading::read_ticket;
 
 // The records of all nodes' values.
+#[tactic(auto, using(crate::proofs::Laws::sum_none, crate::proofs::Laws::sum_more, crate::proofs::Laws::sum_all, crate::proofs::Laws::sum_small, crate::proofs::Laws::weight_is))]
 fn weights(tables: &Tables<'_>) -> u64
-    ensures { result ≡ all_weights (ticket_of tables.now) }
+    ensures { result ≡ all_weights (ticket_of tables.now.lines) }
 {
     let mut sum = 0;
-    for k in 0..tables.counts.nodes {
-        sum += tables.type_weight(tables.node_type(k));
+    for k in 0..tables.lines.counts.nodes {
+        sum += tables.lines.type_weight(tables.lines.node_type(k));
     }
     sum
 }
@@ -38,17 +40,17 @@ fn clear_keys(rows: &mut [u64]) {
 }
 
 // What was read: it takes a mark for each storage, and eight words for each record.
-fn lower_read(
-    tables: &Tables<'_>,
-    code: &mut [u8],
-    store: &mut [u8],
-    narrowed: &mut [u64],
-    stack: &mut [u64],
-    buffer: &mut [u8],
-) -> Result<usize, ReadError>
-    ensures { Tries (of_lowering (ticket_of tables.now) (length buffer.old) (lowered (ticket_of tables.now))) (FewWords (ticket_of tables.now) (length narrowed.old) (length stack.old)) ⊥ buffer.old buffer.new result }
+#[tactic(auto, using(crate::proofs::Laws::tries_ok, crate::proofs::Laws::tries_err, sections::proofs::Laws::storage_count))]
+fn lower_read(tables: &Tables<'_>, lent: Lent<'_>, buffer: &mut [u8]) -> Result<usize, ReadError>
+    ensures { Tries (of_lowering (ticket_of tables.now.lines) (length buffer.old) (lowered (ticket_of tables.now.lines))) (FewWords (ticket_of tables.now.lines) (length lent.entry.narrowed.now) (length lent.entry.stack.now)) ⊥ buffer.old buffer.new result }
 {
-    let storages = tables.counts.storages as usize;
+    let Lent {
+        code,
+        store,
+        narrowed,
+        stack,
+    } = lent;
+    let storages = tables.lines.counts.storages as usize;
     if narrowed.len() < storages {
         return Err(ReadError::NoRoom);
     }
@@ -57,31 +59,40 @@ fn lower_read(
     }
     let marks = &mut narrowed[..storages];
     marks.fill(0);
-    let end = sections::lower_tables(tables, code, store, marks, stack, buffer)?;
+    let lent = Lent {
+        code,
+        store,
+        narrowed: marks,
+        stack,
+    };
+    let end = sections::lower_tables(tables, lent, buffer)?;
     Ok(end)
 }
 
 // The same of a text that the lists are long enough for.
+#[tactic(auto, using(crate::proofs::Laws::text_read, crate::proofs::Laws::read_accepted, crate::proofs::Laws::tries_read, crate::proofs::Laws::tries_unread))]
 fn lower_with(
     ticket: &[u8],
     buffer: &mut [u8],
     rows: &mut [u64],
     lists: &mut [u64],
-    stack: &mut [u64],
-    narrowed: &mut [u64],
-    code: &mut [u8],
-    store: &mut [u8],
+    lent: Lent<'_>,
 ) -> Result<usize, ReadError>
-    requires { (40 ≤ length rows.old) × (length ticket.now ≤ length lists.old * 2) }
-    ensures { Tries (answer ticket.now (length buffer.old)) (FewRead ticket.now (length narrowed.old) (length stack.old)) (FewRows (length rows.old)) buffer.old buffer.new result }
+    requires { length ticket.now ≤ length lists.old * 2 }
+    ensures { Tries (answer ticket.now (length buffer.old)) (FewRead ticket.now (length lent.entry.narrowed.now) (length lent.entry.stack.now)) (FewRows (length rows.old)) buffer.old buffer.new result }
 {
+    if rows.len() < 40 {
+        return Err(ReadError::NoRoom);
+    }
+    clear_keys(rows);
     let counts = read_ticket(ticket, rows, lists)?;
-    let tables = Tables {
+    let lines = Lines {
         rows,
         lists,
         counts,
     };
-    lower_read(&tables, code, store, narrowed, stack, buffer)
+    let tables = Tables { lines };
+    lower_read(&tables, lent, buffer)
 }
 
 // The listing of the ticket's lowering, in the buffer, and its length; or the refusal's number and line, and nothing is written; or that
@@ -90,6 +101,8 @@ fn lower_with(
 // reading accepts; where `rows` has 41,000, these are too few exactly then. With fewer they can be too few too: there are 40 for each line of
 // the kind that has the most, and 40 more. 65,536 words of stack and 256 of narrowed are enough for every ticket.
 // `code` and `store` may have any length: where they hold the listing's halves, the ticket is lowered once, else three times.
+// Each slice is a parameter of its own, as C hands them.
+#[tactic(auto, using(crate::proofs::Laws::answer_unread, crate::proofs::Laws::text_too_long, crate::proofs::Laws::tries_for, crate::proofs::Laws::unread_few))]
 pub fn lower_in(
     ticket: &[u8],
     buffer: &mut [u8],
@@ -111,14 +124,18 @@ pub fn lower_in(
     if lists.len() < ticket.len() - ticket.len() / 2 {
         return Err(ReadError::NoRoom);
     }
-    if rows.len() < 40 {
-        return Err(ReadError::NoRoom);
-    }
-    clear_keys(rows);
-    lower_with(ticket, buffer, rows, lists, stack, narrowed, code, store)
+    let lent = Lent {
+        code,
+        store,
+        narrowed,
+        stack,
+    };
+    lower_with(ticket, buffer, rows, lists, lent)
 }
 
-// The same in few words of its own, which are enough for most tickets.
+// The same in few words of its own, as there is no heap: they are enough for most tickets. One function with const parameters for this
+// and the next would tell six sizes by their places alone at each call, and be no plainer.
+#[tactic(auto, using(crate::proofs::Laws::tries_any))]
 fn lower_small(ticket: &[u8], buffer: &mut [u8]) -> Result<usize, ReadError>
     ensures { Tries (answer ticket.now (length buffer.old)) ⊥ (Unit {0}) buffer.old buffer.new result }
 {

@@ -8,7 +8,7 @@ use Rattle.spec.specs.Hir.{At}
 use Rattle.spec.specs.Ticket.{Tables}
 use Rattle.spec.specs.Readable.{Readable}
 use Rattle.spec.specs.Lir.{ByteStorage, ByteOperand, InstructionKind, Value, value, bytes_value, copy_byte, sign_extend}
-use Rattle.spec.specs.Monad.{Lower, Out, Outcome, done, refused, nothing, prepend, bind_to, ◌>>=◌, ◌>>◌, pure, emits}
+use Rattle.spec.specs.Monad.{Lower, Outcome, done, refused, nothing, bind_to, ◌>>=◌, ◌>>◌, pure, emits}
 use Rattle.spec.specs.Monad as monad
 use Rattle.spec.specs.Allocation.{Location, type_size, odd_bits, allocate_sized, allocate_temporary, bytes_at, location_bytes}
 use Rattle.spec.specs.Arithmetic.{zip2}
@@ -23,8 +23,8 @@ use Rattle.emission.specs.declared.emitter.Emitter.{Emitter}
 use Rattle.emission.specs.Appends.{Room, counters_of, room_less}
 use Rattle.emission.specs.Emits.{Emits, room_emitted, room_allocated}
 use Rattle.emission.specs.Does.{does_emits}
-use Rattle.emission.specs.Forms.{prepend_nothing}
-use Rattle.emission.specs.Loops.{copy_table, bit_table}
+use Rattle.emission.specs.Forms.{each_few, prepend_nothing}
+use Rattle.emission.specs.Loops.{bit_table}
 use Rattle.emission.specs.Temporaries.{location}
 use Rattle.tables.specs.declared.lookups.Tables as code
 use Rattle.tables.specs.Tables.{size_at}
@@ -46,7 +46,7 @@ abbrev pub extends : ℕ → List ByteOperand → List ByteStorage → List Inst
 extends w bs ds = sign_extend w ds bs ∷ []
 
 pub copies_few : (d : Destinations) (b : Bytes) → length (copies (bytes_of b) (destinations_of d)) ≤ d.count
-copies_few d b = rw (copy_table d b, length_tab) (omega arith)
+copies_few d b = each_few d b copy_byte
 
 pub bits_few : (d : Destinations) (b : Bit) → length (bit_to_bytes (destinations_of d) (bit_operand_of b)) ≤ d.count
 bits_few d b = rw (bit_table d b, length_tab) (omega arith)
@@ -97,9 +97,9 @@ module _ {T : Tables} {h : At} {l : Lowering} {e1 : Emitter} {d : Destinations} 
           reach = omega (arith, R.types.size_most h.ty);
         }
 
-pub size_fits : (t : code.Tables) (ty : ℕ) {n : ℕ} → n ≡ size_at t.rows.now t.counts ty → n ≤ 4294967296
+pub size_fits : (t : code.Tables) (ty : ℕ) {n : ℕ} → n ≡ size_at t.lines.rows.now t.lines.counts ty → n ≤ 4294967296
 unfolding type_size
-size_fits t ty e = omega (arith, t.readable.types.size_most ty, size_here t.rows.now t.lists.now t.counts ty)
+size_fits t ty e = omega (arith, t.readable.types.size_most ty, size_here t.lines.rows.now t.lines.lists.now t.lines.counts ty)
 
 -- ---------------------------------------------------------------- bytes as a value
 

@@ -5,7 +5,7 @@ use borrow.Author.Tests.{le-leb, lt-leb}
 use Rattle.spec.specs.Hir as hir
 use Rattle.spec.specs.Ticket.{Tables}
 use Rattle.spec.specs.Readable.{TypesRight}
-use Rattle.spec.specs.Lir.{ByteStorage, ByteOperand, Value, pointer_carry}
+use Rattle.spec.specs.Lir.{ByteStorage, ByteOperand, Value, add, pointer_carry}
 use Rattle.spec.specs.Monad.{Lower, refused, ◌>>=◌, ◌>>◌, emits, require}
 use Rattle.spec.specs.Monad as monad
 use Rattle.spec.specs.Operands.{resize}
@@ -22,6 +22,7 @@ use Rattle.emission.specs.Appends.{counters_of}
 use Rattle.emission.specs.Emits.{Emits, Allocates}
 use Rattle.emission.specs.Does.{does_emits, does_allocate}
 use Rattle.emission.specs.Operands.{length_bytes}
+use Rattle.emission.specs.Loops.{carried}
 use Rattle.emission.specs.Forms.{prepend_nothing}
 use Rattle.emission.specs.Temporaries.{location, place_sized}
 use Rattle.values.specs.declared.Lowering.{Lowering}
@@ -79,7 +80,8 @@ module _ (T : Tables) (R : TypesRight T) where
 
   pub offset_meets : {l : Lowering} {e1 e2 e3 : Emitter} (id k : StorageId) (base offset : Bytes) {p q : Bytes} (h : hir.At) → h.node ≡ l.out.node.0 → 2 ≤ base.total
       → Resizes base 2 p → Resizes offset 2 q → Allocates l.out (allocate_sized 2) id.0 e1 → Allocates e1 (allocate_carry pointer_carry) k.0 e2
-      → Emits e2 (adds k.0 (destinations_of (two id)) (bytes_of p) (bytes_of q)) e3 → MeetsValue l (offset_bytes T (bytes_of base) (bytes_of offset) h (counters_in l)) (with_out l e3) (Ok (pointer_in id))
+      → Emits e2 (carried add k.0 (destinations_of (two id)) (bytes_of p) (bytes_of q)) e3 → MeetsValue l (offset_bytes T (bytes_of base) (bytes_of offset) h (counters_in l)) (with_out l e3) (Ok (pointer_in id))
+  unfolding adds
   offset_meets {l} {e1} {e2} {e3} id k base offset {p} {q} h g n x y a b z =
       let g1 : h.node ≡ e1.node.0 = g ∙ sym (ap (λ (w : NodeId). w.0) a.node) in
       let g2 : h.node ≡ e2.node.0 = g1 ∙ sym (ap (λ (w : NodeId). w.0) b.node) in

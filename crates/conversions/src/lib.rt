@@ -19,12 +19,13 @@ ghost use Rattle.conversions.specs.Converting.{Resizes, form_of, Reinterprets, r
 
 use answers::{Refusal, Refused};
 use emission::Operands;
-use lir::{Bytes, Destinations, Purpose};
+use lir::{Bytes, Destinations, InstructionKind, Purpose};
 use reads::At;
-use tables::Tables;
+use tables::{Lines, Tables};
 use values::{Lowering, Repr, Value};
 
-// How an operator converts.
+// How an operator converts: a variant for each arm of the `match` on it in the Rust's `lower_conversion`, so that the two can be held side
+// by side. Asked twice: by `is_reinterpret` before the operand is lowered, and then by `lower_conversion`.
 #[derive(Clone, Copy, PartialEq, Eq)]
 enum Form {
     Resizing,
@@ -56,8 +57,8 @@ fn normalized_bytes(
     b: Bytes,
     h: At,
 ) -> Result<Value, Refused<Refusal>>
-    requires { (Small b) × (StepRoom (ticket_of tables.now) h.node.0 h.ty l.old) }
-    ensures { MeetsValue l.old (normalized_bytes (ticket_of tables.now) h.ty (bytes_of b) (at_of h) (counters_in l.old)) l.new result }
+    requires { (Small b) × (StepRoom (ticket_of tables.now.lines) h.node.0 h.ty l.old) }
+    ensures { MeetsValue l.old (normalized_bytes (ticket_of tables.now.lines) h.ty (bytes_of b) (at_of h) (counters_in l.old)) l.new result }
 {
     if steps::odd_bits(tables, h.ty) == 0 {
         return Ok(Value {
@@ -66,7 +67,7 @@ fn normalized_bytes(
         });
     }
     let to = steps::byte_temporary(tables, &mut l.out, h)?;
-    l.out.copy_bytes(to, b);
+    l.out.each_byte(to, b, InstructionKind::CopyByte);
     steps::masked(tables, l, to, h)
 }
 
@@ -77,11 +78,11 @@ fn resized(
     v: Value,
     h: At,
 ) -> Result<Value, Refused<Refusal>>
-    requires { (Sound_value v) × (StepRoom (ticket_of tables.now) h.node.0 h.ty l.old) }
-    ensures { MeetsValue l.old (resized (ticket_of tables.now) (flat_of (head_of v)) h.ty (at_of h) (counters_in l.old)) l.new result }
+    requires { (Sound_value v) × (StepRoom (ticket_of tables.now.lines) h.node.0 h.ty l.old) }
+    ensures { MeetsValue l.old (resized (ticket_of tables.now.lines) (flat_of (head_of v)) h.ty (at_of h) (counters_in l.old)) l.new result }
 {
     let b = steps::value_bytes(v).ok_or(h.refuse(Refusal::UnsupportedExpression))?;
-    normalized_bytes(tables, l, resize(b, tables.type_size(h.ty)), h)
+    normalized_bytes(tables, l, resize(b, tables.lines.type_size(h.ty)), h)
 }
 
 // ---------------------------------------------------------------- sign extension, and from a Bool
@@ -93,10 +94,12 @@ fn sign_extended(
     v: Value,
     h: At,
 ) -> Result<Value, Refused<Refusal>>
-    requires { (Sound_value v) × (StepRoom (ticket_of tables.now) h.node.0 h.ty l.old) }
-    ensures { MeetsValue l.old (sign_extended (ticket_of tables.now) (flat_of (head_of v)) h.ty (at_of h) (counters_in l.old)) l.new result }
+    requires { (Sound_value v) × (StepRoom (ticket_of tables.now.lines) h.node.0 h.ty l.old) }
+    ensures { MeetsValue l.old (sign_extended (ticket_of tables.now.lines) (flat_of (head_of v)) h.ty (at_of h) (counters_in l.old)) l.new result }
 {
-    let width = steps::integer_width(tables, v.ty).ok_or(h.refuse(Refusal::UnsupportedType))?;
+    let width = steps::integer_width(&tables.lines, v.ty).ok_or(h.refuse(
+        Refusal::UnsupportedType,
+    ))?;
     let b = steps::value_bytes(v).ok_or(h.refuse(Refusal::UnsupportedExpression))?;
     let to = steps::byte_temporary(tables, &mut l.out, h)?;
     l.out.sign_extend(width, to, b);
@@ -109,8 +112,8 @@ fn boolean_to_integer(
     v: Value,
     h: At,
 ) -> Result<Value, Refused<Refusal>>
-    requires { StepRoom (ticket_of tables.now) h.node.0 h.ty l.old }
-    ensures { MeetsValue l.old (boolean_to_integer (ticket_of tables.now) (flat_of (head_of v)) h.ty (at_of h) (counters_in l.old)) l.new result }
+    requires { StepRoom (ticket_of tables.now.lines) h.node.0 h.ty l.old }
+    ensures { MeetsValue l.old (boolean_to_integer (ticket_of tables.now.lines) (flat_of (head_of v)) h.ty (at_of h) (counters_in l.old)) l.new result }
 {
     let b = steps::value_bit(v).ok_or(h.refuse(Refusal::UnsupportedExpression))?;
     let to = steps::byte_temporary(tables, &mut l.out, h)?;
@@ -120,7 +123,8 @@ fn boolean_to_integer(
 
 // ---------------------------------------------------------------- all conversions
 
-// By the operator's number in the ticket; a number behind the last counts as the first.
+// By the operator's number in the ticket; a number behind the last counts as the first. A match on a number: operators stand by their
+// numbers in the ticket's words, which are lent.
 #[tactic(auto, using(crate::proofs::Laws::operators), unfolding(spec::specs::Operators::conversion_form))]
 fn conversion_form(op: u64) -> Form
     ensures { conversion_form (ticket.conversion_op op) ≡ form_of result }
@@ -145,10 +149,10 @@ pub fn is_reinterpret(op: u64) -> bool
 
 /// A value under a type of the same size; its parts stay where they are.
 #[tactic(auto, unfolding(crate::specs::Converting::reinterpreted_of))]
-pub fn reinterpreted(tables: &Tables<'_>, v: Value, h: At) -> Result<Value, Refused<Refusal>>
-    ensures { result ≡ reinterpreted_of tables.now.rows.now tables.now.counts v h }
+pub fn reinterpreted(lines: &Lines<'_>, v: Value, h: At) -> Result<Value, Refused<Refusal>>
+    ensures { result ≡ reinterpreted_of lines.now.rows.now lines.now.counts v h }
 {
-    if tables.type_size(v.ty) != tables.type_size(h.ty) {
+    if lines.type_size(v.ty) != lines.type_size(h.ty) {
         return Err(h.refuse(Refusal::TypeMismatch));
     }
     Ok(Value {
@@ -166,15 +170,15 @@ pub fn lower_conversion(
     v: Value,
     h: At,
 ) -> Result<Value, Refused<Refusal>>
-    requires { (Sound_value v) × (StepRoom (ticket_of tables.now) h.node.0 h.ty l.old) }
-    ensures { (conversion_form (ticket.conversion_op op) ≡ reinterpreting → ⊥) → MeetsValue l.old (lower_conversion (ticket_of tables.now) (ticket.conversion_op op) (flat_of (head_of v)) h.ty (at_of h) (counters_in l.old)) l.new result }
+    requires { (Sound_value v) × (StepRoom (ticket_of tables.now.lines) h.node.0 h.ty l.old) }
+    ensures { (conversion_form (ticket.conversion_op op) ≡ reinterpreting → ⊥) → MeetsValue l.old (lower_conversion (ticket_of tables.now.lines) (ticket.conversion_op op) (flat_of (head_of v)) h.ty (at_of h) (counters_in l.old)) l.new result }
 {
     match conversion_form(op) {
         Form::Resizing => resized(tables, l, v, h),
         Form::ExtendingSign => sign_extended(tables, l, v, h),
-        Form::Reinterpreting => reinterpreted(tables, v, h),
+        Form::Reinterpreting => reinterpreted(&tables.lines, v, h),
         Form::FromBoolean => boolean_to_integer(tables, l, v, h),
-        Form::ToBoolean => steps::integer_to_bool(tables, l, v, h),
+        Form::ToBoolean => steps::integer_to_bool(&tables.lines, l, v, h),
         Form::OfFloat => Err(h.refuse(Refusal::UnsupportedExpression)),
     }
 }
@@ -203,6 +207,6 @@ pub fn lower_pointer_offset(
         left: resize(base, 2),
         right: resize(offset, 2),
     };
-    l.out.add_bytes(operands, carry);
+    l.out.carried_bytes(operands, carry, InstructionKind::Add);
     Ok(steps::pointer_value(storage))
 }

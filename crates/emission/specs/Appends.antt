@@ -25,7 +25,7 @@ pub record Appends (e : Emitter) (ss : List Storage) (is : List Instruction) (e'
   pub temporary : e'.temporary ≡ e.temporary + length ss
   pub node : e'.node ≡ e.node
 
--- room for n more of each: no count overflows
+-- room for n more of each: no count overflows. It is asked call by call, and is no fact of the emitter's type: n is what that call appends.
 pub record Room (n : ℕ) (e : Emitter) : Type 0 where
   pub instructions : e.instructions + n ≤ 4611686018427387904
   pub storage : e.storage + n ≤ 4611686018427387904

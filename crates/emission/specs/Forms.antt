@@ -28,7 +28,7 @@ use Rattle.emission.specs.Does.{Does, Refuses, Meets, out, does_emits, does_allo
 use Rattle.lir.specs.Tab.{length_tab}
 use Rattle.emission.specs.Kinds.{zero_bytes}
 use Rattle.emission.specs.Operands.{length_bytes, zeros}
-use Rattle.emission.specs.Loops.{adds_table, subtracts_table, negates_table, binary_table, not_table}
+use Rattle.emission.specs.Loops.{carried, carried_table, negates_carried, binary_table, each_table}
 
 abbrev pub unary_form_of : Unary → UnaryForm
 unary_form_of Unary.Negating = negating
@@ -71,45 +71,43 @@ odd_width {T} {ty} h = odd_words (type_at T ty).word (type_at T ty).args ∙ ap 
 -- ---------------------------------------------------------------- lists' lengths
 
 module _ (d : Destinations) (l r : Bytes) where
-  pub adds_few : (k : StorageId) → length (adds k.0 (destinations_of d) (bytes_of l) (bytes_of r)) ≤ d.count
-  adds_few k = rw (adds_table d l r k, length_tab) (omega arith)
-
-  pub subtracts_few : (k : StorageId) → length (subtracts k.0 (destinations_of d) (bytes_of l) (bytes_of r)) ≤ d.count
-  subtracts_few k = rw (subtracts_table d l r k, length_tab) (omega arith)
+  pub carried_few : (f : lir.ByteStorage → ByteOperand → ByteOperand → Option ℕ → Option ℕ → lir.InstructionKind) (c : ℕ)
+      → length (carried f c (destinations_of d) (bytes_of l) (bytes_of r)) ≤ d.count
+  carried_few f c = rw (carried_table d l r f c, length_tab) (omega arith)
 
   pub binary_few : (op : ByteBinaryOp) → length (zip3 (λ i x a b. lir.byte_binary (byte_binary_op_of op) x a b) 0 (destinations_of d) (bytes_of l) (bytes_of r)) ≤ d.count
   binary_few op = rw (binary_table d l r op, length_tab) (omega arith)
 
 module _ (d : Destinations) (b : Bytes) where
-  pub negates_few : (k : StorageId) → length (negates k.0 (destinations_of d) (bytes_of b)) ≤ d.count
-  negates_few k = rw (negates_table d b k, length_tab) (omega arith)
+  pub negates_few : (c : ℕ) → length (negates c (destinations_of d) (bytes_of b)) ≤ d.count
+  negates_few c = rw (negates_carried d b c) (carried_few d (zero_bytes b.total) b lir.subtract c)
 
-  pub not_few : length (zip2 (λ i x a. lir.not_byte x a) 0 (destinations_of d) (bytes_of b)) ≤ d.count
-  not_few = rw (not_table d b, length_tab) (omega arith)
+  pub each_few : (f : lir.ByteStorage → ByteOperand → lir.InstructionKind) → length (zip2 (λ i x a. f x a) 0 (destinations_of d) (bytes_of b)) ≤ d.count
+  each_few f = rw (each_table d b f, length_tab) (omega arith)
 
 -- ---------------------------------------------------------------- with a carry
 
 module _ (T : Tables) (ty : ℕ) (d : Destinations) {e e1 e2 : Emitter} where
   pub does_adding : (l r : Bytes) (k : StorageId) → Allocates e (allocate_carry lir.add_carry) k.0 e1
-      → Emits e1 (adds k.0 (destinations_of d) (bytes_of l) (bytes_of r)) e2
+      → Emits e1 (carried lir.add k.0 (destinations_of d) (bytes_of l) (bytes_of r)) e2
       → Does (d.count + 1) e (binary_instructions T adding ty (destinations_of d) (bytes_of l) (bytes_of r)) tt e2
-  unfolding binary_instructions
+  unfolding binary_instructions adds
   does_adding l r k a e =
-      does_allocating (λ x. emits (adds x (destinations_of d) (bytes_of l) (bytes_of r))) (omega arith) (omega (arith, adds_few d l r k)) a e (λ h n. refl)
+      does_allocating (λ x. emits (adds x (destinations_of d) (bytes_of l) (bytes_of r))) (omega arith) (omega (arith, carried_few d l r lir.add k.0)) a e (λ h n. refl)
 
   pub does_subtracting : (l r : Bytes) (k : StorageId) → Allocates e (allocate_carry lir.subtract_borrow) k.0 e1
-      → Emits e1 (subtracts k.0 (destinations_of d) (bytes_of l) (bytes_of r)) e2
+      → Emits e1 (carried lir.subtract k.0 (destinations_of d) (bytes_of l) (bytes_of r)) e2
       → Does (d.count + 1) e (binary_instructions T subtracting ty (destinations_of d) (bytes_of l) (bytes_of r)) tt e2
-  unfolding binary_instructions
+  unfolding binary_instructions subtracts
   does_subtracting l r k a e =
-      does_allocating (λ x. emits (subtracts x (destinations_of d) (bytes_of l) (bytes_of r))) (omega arith) (omega (arith, subtracts_few d l r k)) a e (λ h n. refl)
+      does_allocating (λ x. emits (subtracts x (destinations_of d) (bytes_of l) (bytes_of r))) (omega arith) (omega (arith, carried_few d l r lir.subtract k.0)) a e (λ h n. refl)
 
   pub does_negating : (b : Bytes) (k : StorageId) → Allocates e (allocate_carry lir.negate_borrow) k.0 e1
       → Emits e1 (negates k.0 (destinations_of d) (bytes_of b)) e2
       → Does (d.count + 1) e (unary_instructions T negating ty (destinations_of d) (bytes_of b)) tt e2
   unfolding unary_instructions
   does_negating b k a e =
-      does_allocating (λ x. emits (negates x (destinations_of d) (bytes_of b))) (omega arith) (omega (arith, negates_few d b k)) a e (λ h n. refl)
+      does_allocating (λ x. emits (negates x (destinations_of d) (bytes_of b))) (omega arith) (omega (arith, negates_few d b k.0)) a e (λ h n. refl)
 
 -- ---------------------------------------------------------------- with a width
 

@@ -7,7 +7,6 @@ use Rattle.spec.specs.Arithmetic.{carry_in, carry_out}
 use Rattle.lir.specs.Abstract.{pick, byte_at, byte_operand_of, bit_operand_of, byte_binary_op_of, rotate_direction_of, kind_of}
 use Rattle.lir.specs.Sound.{Sound}
 use Rattle.lir.specs.Tab.{spot}
-use Rattle.lir.specs.declared.StorageId.{StorageId}
 use Rattle.lir.specs.declared.ByteOperand.{ByteOperand}
 use Rattle.lir.specs.declared.BitOperand.{BitOperand}
 use Rattle.lir.specs.declared.Bytes.{Bytes}
@@ -24,21 +23,16 @@ pub record Makes (k : lir.InstructionKind) (r : InstructionKind) : Type 0 where
   pub sound : Sound r
 
 module _ (d : Destinations) (l r : Bytes) where
-  abbrev pub add_kind : StorageId → ℕ → lir.InstructionKind
-  add_kind k i = lir.add (spot d.storage.0 i) (byte_at l i) (byte_at r i) (carry_in k.0 i) (carry_out k.0 d.count i)
-
-  abbrev pub subtract_kind : StorageId → ℕ → lir.InstructionKind
-  subtract_kind k i = lir.subtract (spot d.storage.0 i) (byte_at l i) (byte_at r i) (carry_in k.0 i) (carry_out k.0 d.count i)
+  -- with a carry into each byte but the first, and out of each but the last
+  abbrev pub carried_kind : (lir.ByteStorage → lir.ByteOperand → lir.ByteOperand → Option ℕ → Option ℕ → lir.InstructionKind) → ℕ → ℕ → lir.InstructionKind
+  carried_kind f c i = f (spot d.storage.0 i) (byte_at l i) (byte_at r i) (carry_in c i) (carry_out c d.count i)
 
   abbrev pub binary_kind : ByteBinaryOp → ℕ → lir.InstructionKind
   binary_kind op i = lir.byte_binary (byte_binary_op_of op) (spot d.storage.0 i) (byte_at l i) (byte_at r i)
 
 module _ (d : Destinations) where
-  abbrev pub not_kind : Bytes → ℕ → lir.InstructionKind
-  not_kind b i = lir.not_byte (spot d.storage.0 i) (byte_at b i)
-
-  abbrev pub copy_kind : Bytes → ℕ → lir.InstructionKind
-  copy_kind b i = lir.copy_byte (spot d.storage.0 i) (byte_at b i)
+  abbrev pub each_kind : (lir.ByteStorage → lir.ByteOperand → lir.InstructionKind) → Bytes → ℕ → lir.InstructionKind
+  each_kind f b i = f (spot d.storage.0 i) (byte_at b i)
 
   abbrev pub bit_kind : BitOperand → ℕ → lir.InstructionKind
   bit_kind b i = bit_byte (eqb i 0) (spot d.storage.0 i) (bit_operand_of b)

@@ -5,5 +5,6 @@ pub mod Kinds
 pub mod Operands
 pub mod Does
 pub mod Loops
+pub mod Made
 pub mod Temporaries
 pub mod Forms

@@ -1,6 +1,6 @@
 -- The definitions' lists of instructions, as tables.
 use Rattle.std.specs.Prelude.{◌≡◌, refl, Bool, true, false, ◌&&◌, List, ◌∷◌, [], ℕ, suc, ◌+◌, ◌-◌, ◌*◌, ◌%◌, ◌≤◌, ◌<◌, min, eqb, leb, length}
-use Rattle.std.proofs.Common.{◌∙◌, arith}
+use Rattle.std.proofs.Common.{sym, ap, ◌∙◌, arith}
 use Rattle.std.proofs.lemmas.Bool.{false≢true}
 use Rattle.std.specs.Prelude.{Option, None, Some}
 use borrow.Author.Tests.{le-ltb, eq-eqb, ne_eqb, le-leb, lt-leb, eqb-true, eqb-false, leb-true, leb-false}
@@ -8,11 +8,10 @@ use Rattle.spec.specs.Lir as lir
 use Rattle.spec.specs.Allocation.{bytes_from}
 use Rattle.spec.specs.Operands.{all_immediate, lowest_byte}
 use Rattle.spec.specs.Operators.{rotate_direction, opposite}
-use Rattle.spec.specs.Arithmetic.{zip2, zip3, carry_in, carry_out, adds, subtracts, negates, rotates, byte_rotates, first_storage, first_operand, byte_rotate, shifts}
+use Rattle.spec.specs.Arithmetic.{zip2, zip3, carry_in, carry_out, negates, rotates, byte_rotates, first_storage, first_operand, byte_rotate, shifts}
 use Rattle.spec.specs.Conversions.{bit_to_bytes}
 use Rattle.spec.proofs.Lengths.{length_bytes_from, length_rotates}
 use Rattle.lir.specs.Abstract.{tab, byte_at, bytes_of, destinations_of, byte_operand_of, bit_operand_of, byte_binary_op_of, rotate_direction_of}
-use Rattle.lir.specs.declared.StorageId.{StorageId}
 use Rattle.lir.specs.declared.ByteOperand.{ByteOperand}
 use Rattle.lir.specs.declared.BitOperand.{BitOperand}
 use Rattle.lir.specs.declared.Bytes.{Bytes}
@@ -21,21 +20,18 @@ use Rattle.lir.specs.declared.ByteBinaryOp.{ByteBinaryOp}
 use Rattle.lir.specs.declared.RotateDirection.{RotateDirection}
 use Rattle.lir.specs.Tab.{spot}
 use Rattle.emission.specs.Tabs.{tab_same, zip2_tab, zip3_tab, bit_tab, rotates_tab}
-use Rattle.emission.specs.Kinds.{add_kind, subtract_kind, binary_kind, not_kind, copy_kind, bit_kind, turn_kind, zero_bytes}
+use Rattle.emission.specs.Kinds.{carried_kind, binary_kind, each_kind, bit_kind, turn_kind, zero_bytes}
+
+-- byte after byte of two values, with a carry from each to the next
+abbrev pub carried : (lir.ByteStorage → lir.ByteOperand → lir.ByteOperand → Option ℕ → Option ℕ → lir.InstructionKind) → ℕ → List lir.ByteStorage → List lir.ByteOperand → List lir.ByteOperand → List lir.InstructionKind
+carried f c ds ls rs = zip3 (λ i d l r. f d l r (carry_in c i) (carry_out c (length ds) i)) 0 ds ls rs
 
 module _ (d : Destinations) (l r : Bytes) where
-  pub adds_table : (k : StorageId)
-      → adds k.0 (destinations_of d) (bytes_of l) (bytes_of r) ≡ tab (add_kind d l r k) 0 (min d.count (min l.total r.total))
-  unfolding adds bytes_of
-  adds_table k =
-      zip3_tab (λ i x a b. lir.add x a b (carry_in k.0 i) (carry_out k.0 (length (destinations_of d)) i)) (byte_at l) (byte_at r) d.storage.0 d.count l.total r.total
-      ∙ tab_same _ _ 0 _ (λ i h. rw length_bytes_from)
-
-  pub subtracts_table : (k : StorageId)
-      → subtracts k.0 (destinations_of d) (bytes_of l) (bytes_of r) ≡ tab (subtract_kind d l r k) 0 (min d.count (min l.total r.total))
-  unfolding subtracts bytes_of
-  subtracts_table k =
-      zip3_tab (λ i x a b. lir.subtract x a b (carry_in k.0 i) (carry_out k.0 (length (destinations_of d)) i)) (byte_at l) (byte_at r) d.storage.0 d.count l.total r.total
+  pub carried_table : (f : lir.ByteStorage → lir.ByteOperand → lir.ByteOperand → Option ℕ → Option ℕ → lir.InstructionKind) (c : ℕ)
+      → carried f c (destinations_of d) (bytes_of l) (bytes_of r) ≡ tab (carried_kind d l r f c) 0 (min d.count (min l.total r.total))
+  unfolding bytes_of
+  carried_table f c =
+      zip3_tab (λ i x a b. f x a b (carry_in c i) (carry_out c (length (destinations_of d)) i)) (byte_at l) (byte_at r) d.storage.0 d.count l.total r.total
       ∙ tab_same _ _ 0 _ (λ i h. rw length_bytes_from)
 
   pub binary_table : (op : ByteBinaryOp)
@@ -45,21 +41,19 @@ module _ (d : Destinations) (l r : Bytes) where
   binary_table op = zip3_tab (λ i x a b. lir.byte_binary (byte_binary_op_of op) x a b) (byte_at l) (byte_at r) d.storage.0 d.count l.total r.total
 
 module _ (d : Destinations) (b : Bytes) where
+  pub each_table : (f : lir.ByteStorage → lir.ByteOperand → lir.InstructionKind)
+      → zip2 (λ i x a. f x a) 0 (destinations_of d) (bytes_of b) ≡ tab (each_kind d f b) 0 (min d.count b.total)
+  unfolding bytes_of
+  each_table f = zip2_tab (λ i x a. f x a) (byte_at b) d.storage.0 d.count b.total
+
   -- a difference from zeros
-  pub negates_table : (k : StorageId)
-      → negates k.0 (destinations_of d) (bytes_of b) ≡ tab (subtract_kind d (zero_bytes b.total) b k) 0 (min d.count b.total)
+  pub negates_carried : (c : ℕ) → negates c (destinations_of d) (bytes_of b) ≡ carried lir.subtract c (destinations_of d) (bytes_of (zero_bytes b.total)) (bytes_of b)
   unfolding negates bytes_of
-  negates_table k =
-      zip2_tab (λ i x a. lir.subtract x (lir.immediate 0) a (carry_in k.0 i) (carry_out k.0 (length (destinations_of d)) i)) (byte_at b) d.storage.0 d.count b.total
+  negates_carried c =
+      let e : min b.total b.total ≡ b.total = omega arith in
+      zip2_tab (λ i x a. lir.subtract x (lir.immediate 0) a (carry_in c i) (carry_out c (length (destinations_of d)) i)) (byte_at b) d.storage.0 d.count b.total
       ∙ tab_same _ _ 0 _ (λ i h. rw (length_bytes_from, le-ltb i 0 (omega arith)))
-
-  pub not_table : zip2 (λ i x a. lir.not_byte x a) 0 (destinations_of d) (bytes_of b) ≡ tab (not_kind d b) 0 (min d.count b.total)
-  unfolding bytes_of
-  not_table = zip2_tab (λ i x a. lir.not_byte x a) (byte_at b) d.storage.0 d.count b.total
-
-  pub copy_table : zip2 (λ i x a. lir.copy_byte x a) 0 (destinations_of d) (bytes_of b) ≡ tab (copy_kind d b) 0 (min d.count b.total)
-  unfolding bytes_of
-  copy_table = zip2_tab (λ i x a. lir.copy_byte x a) (byte_at b) d.storage.0 d.count b.total
+      ∙ sym (carried_table d (zero_bytes b.total) b lir.subtract c ∙ ap (λ (n : ℕ). tab (carried_kind d (zero_bytes b.total) b lir.subtract c) 0 (min d.count n)) e)
 
 pub bit_table : (d : Destinations) (b : BitOperand) → bit_to_bytes (destinations_of d) (bit_operand_of b) ≡ tab (bit_kind d b) 0 d.count
 bit_table d b = bit_tab d.storage.0 d.count (bit_operand_of b)

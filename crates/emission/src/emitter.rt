@@ -99,7 +99,8 @@ impl<'a> Emitter<'a> {
         self.allocate_storage(StorageKind::Carry, purpose, CARRY_REGIONS)
     }
 
-    // A temporary of a type, given its number and its size; type 0 is Bool, and a type of no bytes is refused.
+    // A temporary of a type, given its number and its size in bytes; type 0 is Bool, and a type of no bytes is refused.
+    #[tactic(auto, using(crate::specs::Appends::keeps_all, crate::specs::Temporaries::place_bit, crate::specs::Temporaries::place_sized, crate::specs::Temporaries::place_byte, crate::specs::Temporaries::place_bytes, crate::specs::Temporaries::place_none))]
     pub fn allocate_temporary(&mut self, ty: u64, size: u64) -> Result<StorageId, Refusal>
         requires { Room 1 self.old }
         ensures { (T : Tables) → type_size T ty ≡ size → MeetsTemporary self.old (allocate_temporary T ty) ty self.new result }
@@ -128,7 +129,8 @@ impl<'a> Emitter<'a> {
     }
 
     // Instructions 0 to n - 1 of what `make` makes.
-    pub(crate) fn emit_each<F: Fn(u64) -> InstructionKind>(&mut self, n: u64, make: F)
+    #[tactic(auto, using(crate::specs::Appends::room_less, crate::specs::Emits::made_none, crate::specs::Emits::made_more, crate::specs::Emits::room_emitted))]
+    pub fn emit_each<F: Fn(u64) -> InstructionKind>(&mut self, n: u64, make: F)
         requires room { Room n self.old }
         requires callable { (i : ℕ) → i < n → F.pre make i }
         requires sound { (i : ℕ) (k : _) → F.post make i k → Sound k }

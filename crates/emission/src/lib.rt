@@ -9,14 +9,16 @@ ghost use Rattle.spec.specs.Allocation.{bool_type};
 ghost use Rattle.spec.specs.Operands.{all_immediate, lowest_byte};
 ghost use Rattle.spec.specs.Operators as operators;
 ghost use Rattle.spec.specs.Operators.{rotate_direction, compare_op};
-ghost use Rattle.spec.specs.Arithmetic.{zip2, zip3, carry_in, carry_out, adds, subtracts, negates, masks, rotates, byte_rotates, first_operand, byte_rotate, shifts, binary_instructions, unary_instructions};
+ghost use Rattle.spec.specs.Arithmetic.{zip3, carry_in, carry_out, negates, masks, rotates, byte_rotates, first_operand, byte_rotate, shifts, binary_instructions, unary_instructions};
 ghost use Rattle.spec.specs.Conversions.{bit_to_bytes};
 ghost use Rattle.lir.specs.Abstract.{tab, pick, byte_storage_of, byte_operand_of, bit_operand_of, carry_of, bytes_of, destinations_of, byte_binary_op_of, rotate_direction_of, shift_op_of, compare_op_of, kind_of, purpose_of, Small};
+ghost use Rattle.lir.specs.Sound.{Sound};
 ghost use Rattle.lir.specs.Tab.{spot};
 ghost use Rattle.emission.specs.Appends.{Room};
 ghost use Rattle.emission.specs.Emits.{Emits};
 ghost use Rattle.emission.specs.Does.{Does, Meets};
-ghost use Rattle.emission.specs.Kinds.{Makes, add_kind, subtract_kind, bit_kind, turn_kind, zero_bytes, direction_option};
+ghost use Rattle.emission.specs.Kinds.{Makes, bit_kind, turn_kind, zero_bytes, direction_option};
+ghost use Rattle.emission.specs.Made.{EmitsCarried, EmitsBytes};
 ghost use Rattle.emission.specs.Forms.{HasWidth, unary_form_of, binary_form_of, comparing, comparing_zero};
 
 use answers::Refusal;
@@ -32,7 +34,9 @@ pub mod operands;
 pub use emitter::{Emitter, TEMPORARY_REGIONS};
 pub use operands::Operands;
 
-// How an operator is lowered: byte by byte with a carry or without, or as one instruction.
+// How an operator is lowered: byte by byte with a carry or without, or as one instruction. A variant for each arm of the `match` on the
+// operator in the Rust's `lower_integer_unary` and `lower_integer_binary`, so that the two can be held side by side, and with it the
+// operator that the arm maps to (`integer_binary_bytes_op` in the last).
 #[derive(Clone, Copy, Debug, PartialEq, Eq)]
 pub enum UnaryForm {
     Negating,
@@ -73,33 +77,6 @@ fn destination(d: Destinations, i: u64) -> ByteStorage
     }
 }
 
-// Sums and differences are alike but for the variant: one function with a parameter for it has a match of two such arms, and is no plainer.
-fn add_byte(o: Operands, carry: StorageId, i: u64) -> InstructionKind
-    requires { i < 4611686018427387904 }
-    ensures { Makes (add_kind o.to o.left o.right carry i) result }
-{
-    InstructionKind::Add(
-        destination(o.to, i),
-        lir::byte_at(o.left, i),
-        lir::byte_at(o.right, i),
-        carry_in(carry, i),
-        carry_out(carry, o.to.count, i),
-    )
-}
-
-fn subtract_byte(o: Operands, carry: StorageId, i: u64) -> InstructionKind
-    requires { i < 4611686018427387904 }
-    ensures { Makes (subtract_kind o.to o.left o.right carry i) result }
-{
-    InstructionKind::Subtract(
-        destination(o.to, i),
-        lir::byte_at(o.left, i),
-        lir::byte_at(o.right, i),
-        carry_in(carry, i),
-        carry_out(carry, o.to.count, i),
-    )
-}
-
 // The first byte gets the bit, the others 0.
 fn bit_byte(d: Destinations, b: BitOperand, i: u64) -> InstructionKind
     ensures { Makes (bit_kind d b i) result }
@@ -137,6 +114,7 @@ fn zero_bytes(n: u64) -> Bytes
 // ---------------------------------------------------------------- questions about a value's bytes
 
 // A run of a storage's bytes begins with one: where the first byte is a constant, all are.
+#[tactic(auto, using(crate::specs::Operands::all_empty, crate::specs::Operands::all_first))]
 fn all_immediate(b: Bytes) -> bool
     requires { Small b }
     ensures { result ≡ all_immediate (bytes_of b) }
@@ -150,6 +128,8 @@ fn all_immediate(b: Bytes) -> bool
     }
 }
 
+// 0 where the first byte is no constant.
+#[tactic(auto, using(crate::specs::Operands::lowest_empty, crate::specs::Operands::lowest_first))]
 fn lowest_byte(b: Bytes) -> u64
     requires { Small b }
     ensures { result ≡ lowest_byte (bytes_of b) }
@@ -164,6 +144,7 @@ fn lowest_byte(b: Bytes) -> u64
 }
 
 // One byte, turned by a constant.
+#[tactic(auto, using(spec::proofs::Lengths::length_bytes_from, crate::specs::Operands::length_bytes), unfolding(spec::specs::Arithmetic::byte_rotate))]
 fn byte_rotate(width: u64, o: Operands) -> bool
     ensures { result ≡ byte_rotate width (destinations_of o.to) (bytes_of o.left) (bytes_of o.right) }
 {
@@ -181,6 +162,7 @@ fn mask_of(k: u64) -> u64
     (1 << k) - 1
 }
 
+// The other way round: of a turn by more than half.
 fn opposite(direction: RotateDirection) -> RotateDirection
     ensures { rotate_direction_of result ≡ operators.opposite (rotate_direction_of direction) }
 {
@@ -205,20 +187,36 @@ fn rotate_direction(op: ShiftOp) -> Option<RotateDirection>
 impl Emitter<'_> {
     // ------------------------------------------------------------ byte by byte
 
-    pub fn add_bytes(&mut self, o: Operands, carry: StorageId)
-        requires { Room o.to.count self.old }
-        ensures { Emits self.old (adds carry.0 (destinations_of o.to) (bytes_of o.left) (bytes_of o.right)) self.new }
+    // Sums and differences: `make` is the variant, and a carry goes from each byte to the next.
+    pub fn carried_bytes<F>(&mut self, o: Operands, carry: StorageId, make: F)
+    where
+        F: Fn(
+            ByteStorage,
+            ByteOperand,
+            ByteOperand,
+            Option<StorageId>,
+            Option<StorageId>,
+        ) -> InstructionKind,
+        requires room { Room o.to.count self.old }
+        requires callable { F.IsAlwaysCallable make }
+        requires sound { (d : _) (x : _) (y : _) (i : _) (u : _) (k : _) → F.post make d x y i u k → Sound k }
+        ensures { EmitsCarried (F.post make) o carry.0 self.old self.new }
     {
         let n = o.to.count.min(o.left.total.min(o.right.total));
-        self.emit_each(n, |i| add_byte(o, carry, i));
-    }
-
-    pub fn subtract_bytes(&mut self, o: Operands, carry: StorageId)
-        requires { Room o.to.count self.old }
-        ensures { Emits self.old (subtracts carry.0 (destinations_of o.to) (bytes_of o.left) (bytes_of o.right)) self.new }
-    {
-        let n = o.to.count.min(o.left.total.min(o.right.total));
-        self.emit_each(n, |i| subtract_byte(o, carry, i));
+        self.emit_each(
+            n,
+            |i|
+                requires { (i < 4611686018427387904) × (Small o.left) × (Small o.right) × (F.IsAlwaysCallable make) }
+            {
+                make(
+                    destination(o.to, i),
+                    lir::byte_at(o.left, i),
+                    lir::byte_at(o.right, i),
+                    carry_in(carry, i),
+                    carry_out(carry, o.to.count, i),
+                )
+            },
+        );
     }
 
     // And, or, xor.
@@ -247,27 +245,25 @@ impl Emitter<'_> {
             left: zero_bytes(b.total),
             right: b,
         };
-        self.emit_each(d.count.min(b.total), |i| subtract_byte(o, carry, i));
+        self.carried_bytes(o, carry, InstructionKind::Subtract);
     }
 
-    pub fn not_bytes(&mut self, d: Destinations, b: Bytes)
-        requires { (Small b) × (Room d.count self.old) }
-        ensures { Emits self.old (zip2 (λ i x a. spec-lir.not_byte x a) 0 (destinations_of d) (bytes_of b)) self.new }
+    // Copies, and complements: `make` is the variant.
+    pub fn each_byte<F>(&mut self, d: Destinations, b: Bytes, make: F)
+    where
+        F: Fn(ByteStorage, ByteOperand) -> InstructionKind,
+        requires room { (Small b) × (Room d.count self.old) }
+        requires callable { F.IsAlwaysCallable make }
+        requires sound { (x : _) (y : _) (k : _) → F.post make x y k → Sound k }
+        ensures { EmitsBytes (F.post make) d b self.old self.new }
     {
         let n = d.count.min(b.total);
-        self.emit_each(n, |i| {
-            InstructionKind::NotByte(destination(d, i), lir::byte_at(b, i))
-        });
-    }
-
-    pub fn copy_bytes(&mut self, d: Destinations, b: Bytes)
-        requires { (Small b) × (Room d.count self.old) }
-        ensures { Emits self.old (zip2 (λ i x a. spec-lir.copy_byte x a) 0 (destinations_of d) (bytes_of b)) self.new }
-    {
-        let n = d.count.min(b.total);
-        self.emit_each(n, |i| {
-            InstructionKind::CopyByte(destination(d, i), lir::byte_at(b, i))
-        });
+        self.emit_each(
+            n,
+            |i|
+                requires { (Small b) × (F.IsAlwaysCallable make) }
+            { make(destination(d, i), lir::byte_at(b, i)) },
+        );
     }
 
     // The first byte gets the bit, the others 0.
@@ -308,6 +304,7 @@ impl Emitter<'_> {
     }
 
     // By the shorter way round; a distance of 0 copies.
+    #[tactic(auto, using(crate::specs::Loops::turn_none, crate::specs::Loops::turn_few, crate::specs::Loops::turn_back))]
     fn byte_rotates(
         &mut self,
         d: Destinations,
@@ -335,6 +332,7 @@ impl Emitter<'_> {
         self.emit(InstructionKind::ShiftBytes(op, width, o.to, o.left, o.right));
     }
 
+    #[tactic(auto, using(spec::proofs::Lengths::length_bytes_from, crate::specs::Appends::room_less, crate::specs::Loops::turned_one, crate::specs::Loops::shift_plain, crate::specs::Loops::shift_whole))]
     pub fn shift_bytes(&mut self, op: ShiftOp, width: u64, o: Operands)
         requires { Room (2 * o.to.count + 2) self.old }
         ensures { Emits self.old (shifts (shift_op_of op) width (destinations_of o.to) (bytes_of o.left) (bytes_of o.right)) self.new }
@@ -369,7 +367,7 @@ impl Emitter<'_> {
                 Ok(())
             }
             UnaryForm::Inverting => {
-                self.not_bytes(d, b);
+                self.each_byte(d, b, InstructionKind::NotByte);
                 Ok(())
             }
             UnaryForm::Counting(op) => {
@@ -394,12 +392,12 @@ impl Emitter<'_> {
         match form {
             BinaryForm::Adding => {
                 let carry = self.allocate_carry(Purpose::AddCarry);
-                self.add_bytes(o, carry);
+                self.carried_bytes(o, carry, InstructionKind::Add);
                 Ok(())
             }
             BinaryForm::Subtracting => {
                 let borrow = self.allocate_carry(Purpose::SubtractBorrow);
-                self.subtract_bytes(o, borrow);
+                self.carried_bytes(o, borrow, InstructionKind::Subtract);
                 Ok(())
             }
             BinaryForm::Bytewise(op) => {

@@ -1,6 +1,6 @@
 -- What is left of a line at a position: the code's answers as the fields that they stand for.
 use Rattle.std.specs.Prelude.{ℕ, suc, ◌+◌, ◌*◌, ◌≤◌, ◌<◌, ◌^◌, ◌-◌, ◌≡◌, Bool, true, false, List, ◌∷◌, ◌++◌, [], eqb, leb, ltb, length, get_or, drop, take}
-use Rattle.std.specs.Prelude.{Option, None, Some, IfSome, option_map}
+use Rattle.std.specs.Prelude.{Option, None, Some, IfSome, MatchOption, option_map}
 use Rattle.spec.specs.Text.{split, comma, number, same, horner, all_digits}
 use Rattle.tables.specs.Tables.{pick, run}
 
@@ -15,6 +15,10 @@ pub record Found (s : List ℕ) (from b r : ℕ) : Type 0 where
   pub low : from ≤ r
   pub high : r ≤ length s
   pub here : r ≡ from + index b (drop from s)
+
+-- the field at a position ends at r; past the line's end there is none
+pub record EndAt (s : List ℕ) (p : ℕ) (r : Option ℕ) : Type 0 where
+  pub right : MatchOption r (length s < p) (λ e. (p ≤ length s) × Found s p comma e)
 
 -- the fields from a position on; none behind the last
 unfoldable pub fields_from : List ℕ → ℕ → List (List ℕ)

@@ -4,9 +4,10 @@
 
 ghost use Rattle.std.specs.Prelude.{◌≡◌, ◌+◌, ◌*◌, ◌≤◌, length};
 ghost use Rattle.spec.specs.Text.{number as number_of, same as same_of, split, comma};
-ghost use Rattle.fields.specs.Fields.{Found, digits_from, NumberAt, Listing, position, WordAt, Tried, Same, Digits, QuickAt, LoneAt};
+ghost use Rattle.fields.specs.Fields.{Found, EndAt, digits_from, NumberAt, Listing, position, WordAt, Tried, Same, Digits, QuickAt, LoneAt};
 
-/// Where the first b stands from a position on, or the end.
+/// Where the first b stands from a position on, or the end. No `position`: it counts from where it begins, and the answer is a place in the
+/// whole text.
 #[tactic(auto, using(crate::proofs::Marks::find_laws))]
 pub fn find(s: &[u8], from: usize, b: u8) -> usize
     requires { from ≤ length s.now }
@@ -20,7 +21,7 @@ pub fn find(s: &[u8], from: usize, b: u8) -> usize
     s.len()
 }
 
-/// Whether two texts are the same.
+/// Whether two texts are the same: `==`, with a contract by the definition's own word.
 #[tactic(auto, using(crate::proofs::Tabs::same_bytes))]
 pub fn same(a: &[u8], b: &[u8]) -> bool
     ensures { result ≡ same_of a.now b.now }
@@ -42,7 +43,7 @@ fn digits(field: &[u8]) -> Option<u64>
     Some(value)
 }
 
-/// A whole field as a number.
+/// A whole field as a number. No `FromStr` or `From`: a ticket's numbers have no sign and no leading 0, and the contract is the definition's.
 #[tactic(auto, using(crate::proofs::Decimals::number_laws))]
 pub fn field_number(field: &[u8]) -> Option<u64>
     ensures { result ≡ number_of field.now }
@@ -53,14 +54,22 @@ pub fn field_number(field: &[u8]) -> Option<u64>
     digits(field)
 }
 
-#[tactic(auto, using(crate::proofs::Lines::number_at))]
-fn any_number(line: &[u8], at: usize) -> Option<(u64, usize)>
-    ensures { NumberAt line.now at result }
+// Where the field at a position ends, if one stands there.
+fn field_end(line: &[u8], at: usize) -> Option<usize>
+    ensures { EndAt line.now at result }
 {
     if line.len() < at {
         return None;
     }
-    let end = find(line, at, b',');
+    Some(find(line, at, b','))
+}
+
+// `any_number`, `word` and `word_tried` begin alike, by `field_end`; what they read of the field differs.
+#[tactic(auto, using(crate::proofs::Lines::number_at))]
+fn any_number(line: &[u8], at: usize) -> Option<(u64, usize)>
+    ensures { NumberAt line.now at result }
+{
+    let end = field_end(line, at)?;
     Some((field_number(&line[at..end])?, end + 1))
 }
 
@@ -129,7 +138,7 @@ fn lone(line: &[u8], at: usize) -> Option<u8>
     }
 }
 
-/// How many numbers stand to the line's end; they go behind the first `used` of the lists.
+/// How many numbers stand to the line's end; they go behind the first `used` of the lists, one lent slice for all lines, since there is no heap.
 #[tactic(auto, using(crate::proofs::Lines::gone_laws))]
 pub fn numbers(line: &[u8], at: usize, lists: &mut [u64], used: usize) -> Option<usize>
     requires { (used * 2 + length line.now ≤ at + length lists.old * 2) × (at ≤ length line.now + 1) }
@@ -137,6 +146,7 @@ pub fn numbers(line: &[u8], at: usize, lists: &mut [u64], used: usize) -> Option
 {
     let mut n = 0;
     let mut from = at;
+    // By what was read: the next field's place is known once this one is read, so there is no counted index.
     while from <= line.len() {
         let (value, next) = match lone(line, from) {
             Some(digit) => (u64::from(digit), from + 2),
@@ -165,50 +175,45 @@ pub fn word_place(words: &[u8], field: &[u8]) -> Option<u64>
 pub fn word(line: &[u8], at: usize, words: &[u8]) -> Option<(u64, usize)>
     ensures { WordAt line.now words.now at result }
 {
-    if line.len() < at {
-        return None;
-    }
-    let end = find(line, at, b',');
+    let end = field_end(line, at)?;
     Some((word_place(words, &line[at..end])?, end + 1))
 }
 
-// Whether a field is what stands from s to e of the words.
-fn stands(words: &[u8], field: &[u8], s: usize, e: usize) -> bool
-    ensures { Same words.now field.now s e result }
+/// A word that is tried before the others: its place among them, and where it stands.
+#[derive(Clone, Copy, Debug, PartialEq, Eq)]
+pub struct Likely {
+    pub place: u64,
+    pub start: usize,
+    pub end: usize,
+}
+
+// Whether a field is what stands where the word is.
+fn stands(words: &[u8], field: &[u8], likely: Likely) -> bool
+    ensures { Same words.now field.now likely.start likely.end result }
 {
-    match words.get(s..e) {
+    match words.get(likely.start..likely.end) {
         Some(word) => same(word, field),
         None => false,
     }
 }
 
 #[tactic(auto, using(crate::proofs::Lines::tried_here))]
-fn tried_place(words: &[u8], field: &[u8], k: u64, s: usize, e: usize) -> Option<u64>
-    requires { Tried words.now k s e }
+fn tried_place(words: &[u8], field: &[u8], likely: Likely) -> Option<u64>
+    requires { Tried words.now likely.place likely.start likely.end }
     ensures { result ≡ position field.now (split comma words.now) }
 {
-    if stands(words, field, s, e) {
-        return Some(k);
+    if stands(words, field, likely) {
+        return Some(likely.place);
     }
     word_place(words, field)
 }
 
-/// As `word`, but the word from s to e, the k-th, is tried first.
+/// As `word`, but one word is tried first.
 #[tactic(auto, using(crate::proofs::Lines::word_at))]
-pub fn word_tried(
-    line: &[u8],
-    at: usize,
-    words: &[u8],
-    k: u64,
-    s: usize,
-    e: usize,
-) -> Option<(u64, usize)>
-    requires { Tried words.now k s e }
+pub fn word_tried(line: &[u8], at: usize, words: &[u8], likely: Likely) -> Option<(u64, usize)>
+    requires { Tried words.now likely.place likely.start likely.end }
     ensures { WordAt line.now words.now at result }
 {
-    if line.len() < at {
-        return None;
-    }
-    let end = find(line, at, b',');
-    Some((tried_place(words, &line[at..end], k, s, e)?, end + 1))
+    let end = field_end(line, at)?;
+    Some((tried_place(words, &line[at..end], likely)?, end + 1))
 }

@@ -4,19 +4,16 @@
 // length, and into the buffer once that is known to be long enough. So a refusal writes nothing.
 #![tactic(auto)]
 
-ghost use Rattle.std.specs.Prelude.{◌≡◌, ◌∷◌, ◌≤◌, ◌<◌, length};
-ghost use Rattle.spec.specs.Text.{digits, split, comma, line_feed};
-ghost use Rattle.spec.specs.Answer.{fitted};
-ghost use Rattle.text.specs.Put.{Put};
-ghost use Rattle.text.specs.Writes.{Writes};
-ghost use Rattle.figures.specs.Fraction.{gcd as gcd_of, lowest};
-ghost use Rattle.figures.specs.Annex.{fraction};
+mod annex;
+
+ghost use Rattle.std.specs.Prelude.{◌≡◌, ◌≤◌, ◌<◌, length};
+ghost use Rattle.spec.specs.Text.{split, comma, line_feed};
 ghost use Rattle.figures.specs.Lines.{count_limit, line_limit, done_of, read_from, answer};
-ghost use Rattle.figures.specs.Totals.{with_number, with_line, no_lines, Small, Sound, Held, figures_of, printed, line_of, StepAt, onto, of_columns};
+ghost use Rattle.figures.specs.Totals.{with_number, with_line, no_lines, Small, Held, line_of, StepAt, onto, of_columns};
 ghost use Rattle.figures.specs.Shown.{refusal_number, told, Answers};
 
+use annex::Annex;
 use answers::{Numbered, Refused};
-use text::writer::Writer;
 
 /// Why there is no annex.
 #[derive(Clone, Copy, Debug, PartialEq, Eq)]
@@ -30,6 +27,7 @@ pub enum Refusal {
 impl Numbered for Refusal {
     ghost number_of = { refusal_number };
 
+    // The format's numbers: two share 41, so no discriminants.
     fn number(&self) -> u64 {
         match self {
             Refusal::NoLines | Refusal::ManyLines => 41,
@@ -65,6 +63,7 @@ const NOTHING: Totals = Totals {
 };
 
 impl Totals {
+    // `Small` is asked of the call, and is no fact of the type: `with_number` (specs/Totals.antt) is of any totals and any number, large ones too.
     fn add(&mut self, x: u64)
         requires { (Small self.old.count self.old) × (self.old.count < line_limit) × (x ≤ count_limit) }
         ensures { self.new ≡ with_number self.old x }
@@ -117,7 +116,7 @@ fn next_line(text: &[u8], at: usize) -> Option<(u64, u64, usize)>
     Some((instructions, storages, end + 1))
 }
 
-// The lines of a text; line 1,001 is refused before it is read.
+// The lines of a text; line 1,001 is refused before it is read. Where a line ends is found by reading it: no index is counted.
 fn count_lines(text: &[u8]) -> Result<Columns, Refused<Refusal>>
     ensures { told result ≡ onto no_lines (read_from 1 (split line_feed text.now)) }
 {
@@ -147,95 +146,17 @@ fn count_lines(text: &[u8]) -> Result<Columns, Refused<Refusal>>
     Ok(columns)
 }
 
-fn gcd(a: u64, b: u64) -> u64
-    ensures { result ≡ gcd_of a b }
-{
-    let mut x = a;
-    let mut y = b;
-    while y != 0 {
-        (x, y) = (y, x % y);
-    }
-    x
-}
-
-// A comma and a number.
-fn print_field(out: &mut Writer<'_>, n: u64)
-    ensures { Writes out.old (comma ∷ digits n) out.new }
-{
-    out.put(b',');
-    out.number(n);
-}
-
-// The fraction a / b as a field.
-fn print_fraction(out: &mut Writer<'_>, a: u64, b: u64)
-    requires { 0 < b }
-    ensures { Writes out.old (comma ∷ fraction (lowest a b)) out.new }
-{
-    let g = gcd(a, b);
-    print_field(out, a / g);
-    out.put(b'/');
-    out.number(b / g);
-}
-
-// Count, least, greatest, mean and variance, and the line's end.
-fn print_totals(out: &mut Writer<'_>, t: Totals)
-    requires { Sound t }
-    ensures { Writes out.old (figures_of t) out.new }
-{
-    let n = t.count;
-    out.number(n);
-    print_field(out, t.least);
-    print_field(out, t.greatest);
-    print_fraction(out, t.sum, n);
-    print_fraction(out, n * t.squares - t.sum * t.sum, n * n);
-    out.put(b'\n');
-}
-
-fn print_columns(out: &mut Writer<'_>, c: Columns)
-    requires { (Sound c.instructions) × (Sound c.storages) }
-    ensures { Writes out.old (printed c) out.new }
-{
-    print_totals(out, c.instructions);
-    print_totals(out, c.storages);
-}
-
-// Both lines from the buffer's start, and the position behind them.
-fn write_columns(buffer: &mut [u8], c: Columns) -> usize
-    requires { (Sound c.instructions) × (Sound c.storages) }
-    ensures { Put buffer.old 0 (printed c) buffer.new result }
-{
-    let mut out = Writer::new(buffer);
-    print_columns(&mut out, c);
-    out.at
-}
-
-// The length first, then the bytes.
-fn place(c: Columns, buffer: &mut [u8]) -> Result<usize, Refused<Refusal>>
-    requires { (Sound c.instructions) × (Sound c.storages) }
-    ensures { Answers (fitted (length buffer.old) (printed c)) buffer.old buffer.new result }
-{
-    let end = write_columns(&mut [0; 1], c);
-    if buffer.len() < end {
-        return Err(Refused {
-            refusal: Refusal::LongAnnex,
-            line: 0,
-        });
-    }
-    write_columns(buffer, c);
-    Ok(end)
-}
-
 fn figures_of(c: Columns, buffer: &mut [u8]) -> Result<usize, Refused<Refusal>>
     requires { Held c }
     ensures { Answers (of_columns (length buffer.old) c) buffer.old buffer.new result }
 {
-    if c.instructions.count == 0 {
-        return Err(Refused {
+    match Annex::new(c) {
+        Some(annex) => annex.write(buffer),
+        None => Err(Refused {
             refusal: Refusal::NoLines,
             line: 0,
-        });
+        }),
     }
-    place(c, buffer)
 }
 
 /// The two lines of the annex in the buffer, or a refusal that writes nothing.

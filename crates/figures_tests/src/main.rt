@@ -7,28 +7,21 @@ ghost use Rattle.std.specs.Prelude.{length};
 ghost use Rattle.figures.specs.Lines.{answer};
 ghost use Rattle.cases.specs.Cases.{Right};
 
-use answers::Numbered;
 use std::io::{self, Read};
 
 fn holds(lines: &[u8], expected: &[u8], buffer: &mut [u8]) -> bool
     ensures { Right (answer lines.now (length buffer.old)) expected.now result }
 {
     cases::fill(buffer);
-    match figures::figures(lines, buffer) {
-        Ok(n) => cases::accepted(n, expected, buffer),
-        Err(e) => cases::refused(e.refusal.number(), e.line, expected, buffer),
-    }
+    let answer = figures::figures(lines, buffer);
+    cases::judged(answer, expected, buffer)
 }
 
 // The entry is lent the first `room` bytes, and the others stay as they are.
 fn holds_within(lines: &[u8], expected: &[u8], buffer: &mut [u8], room: usize) -> bool
     ensures { Right (answer lines.now room) expected.now result }
 {
-    if buffer.len() < room {
-        return false;
-    }
-    cases::fill(buffer);
-    holds(lines, expected, &mut buffer[..room]) && cases::untouched(buffer, room)
+    cases::within(buffer, room, |part| holds(lines, expected, part))
 }
 
 // Whether the next text is answered so.
@@ -40,17 +33,14 @@ fn replay<R: Read>(reader: &mut R) -> Option<bool> {
     let mut lines = [0; 32768];
     let mut expected = [0; 256];
     let mut buffer = [0; 256];
-    let size = size as usize;
-    let length = length as usize;
-    if !cases::read(reader, &mut lines, size) || !cases::read(reader, &mut expected, length) {
+    let Some(lines) = cases::read(reader, &mut lines, size as usize) else {
         return Some(false);
-    }
-    Some(holds_within(
-        cases::first(&lines, size),
-        cases::first(&expected, length),
-        &mut buffer,
-        room as usize,
-    ))
+    };
+    let Some(expected) = cases::read(reader, &mut expected, length as usize) else {
+        return Some(false);
+    };
+    let room = room as usize;
+    Some(holds_within(lines, expected, &mut buffer, room))
 }
 
 fn main(rt: HostRuntime) -> io::Result<()> {

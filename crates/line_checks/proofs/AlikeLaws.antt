@@ -1,14 +1,15 @@
--- Words that differ in marks alone hold the same depths.
+-- Words that differ in marks alone hold the same depths, and what reading keeps of them.
 use mathlib.Core.Path.{◌≡◌, refl, ap}
 use mathlib.Core.Bool.{Bool, true, false}
 use mathlib.Core.List.{List, [], ◌∷◌}
 use Prim.Native.Nat.{ℕ, ◌<◌}
+use native.Mathlib.Omega.{arith}
 use lib.Dec.{ltb, lit<}
 use borrow.Author.Tests.{eqb-false}
-use Rattle.tables.specs.Tables.{pick, row_of, places_from, cell}
+use Rattle.tables.specs.Tables.{pick, row_of, storages_from, variables_from, statics_from, places_from, cell}
 use Rattle.tables.specs.declared.Counts.{Counts}
 use Rattle.spec.specs.Forms.{Arg, Field, between, float_width, type_part, type, storage, place, node}
-use Rattle.line_checks.specs.Rows.{word_at, row_at, nodes_from}
+use Rattle.line_checks.specs.Rows.{word_at, row_at, nodes_from, Inside, Held}
 use Rattle.line_checks.specs.declared.rows.Row.{Row}
 use Rattle.line_checks.specs.Steps.{deepest_in, depth_in, Alike}
 
@@ -39,3 +40,25 @@ module _ (u t : List ℕ) (c : Counts) (a : Alike u t) where
   unfolding deepest_in
   deepest_alike [] = refl
   deepest_alike (x ∷ xa) = rw (depth_alike x.class x.value, deepest_alike xa)
+
+-- ---------------------------------------------------------------- what is kept of the words
+
+module _ (u t : List ℕ) (a : Alike u t) where
+  pub word_same : (q j : ℕ) → j < 5 → word_at t q j ≡ word_at u q j
+  word_same q j l = a.cells q j (λ e. omega arith) (omega arith)
+
+  inside_alike : (used base n : ℕ) → Inside u used base n → Inside t used base n
+  inside_alike used base n i =
+      record { ends = λ k h. rw (word_same (row_of base k) 1 (lit< tt), word_same (row_of base k) 2 (lit< tt)) (i.ends k h) }
+
+  pub held_alike : (c : Counts) → Held u c → Held t c
+  held_alike c h =
+      record {
+        few = h.few;
+        types = inside_alike c.used 0 c.types h.types;
+        storages = inside_alike c.used storages_from c.storages h.storages;
+        variables = inside_alike c.used variables_from c.variables h.variables;
+        statics = inside_alike c.used statics_from c.statics h.statics;
+        places = inside_alike c.used places_from c.places h.places;
+        nodes = inside_alike c.used nodes_from c.nodes h.nodes;
+      }

@@ -8,7 +8,7 @@ ghost use Rattle.line_checks.specs.Steps.{verdict_of, few_by_counts, earlier_in,
 use crate::limits;
 use crate::rows::mark;
 use answers::Refusal;
-use line_forms::{Class, Form, LineKind, class_at};
+use line_forms::{Class, Form, LineKind, rule_of};
 use tables::{Counts, cell, word as number};
 
 // 2: the order of kinds. Places and nodes are mixed, so it is no order of the kinds.
@@ -34,9 +34,9 @@ fn ordered(stage: u64, rank: u64) -> bool
     }
 }
 
-// 8: lines of a kind.
-fn few(kind: LineKind, counts: Counts) -> bool
-    ensures { result ≡ few_by_counts kind counts }
+// 8: lines of a kind. A field of the counts for each kind, here and in crates/ticket: they are read by name as in the definitions.
+fn few(kind: LineKind, counts: &Counts) -> bool
+    ensures { result ≡ few_by_counts kind counts.now }
 {
     match kind {
         LineKind::Functions => true,
@@ -60,8 +60,8 @@ fn in_range(class: Class, x: u64) -> bool
     }
 }
 
-fn is_earlier(class: Class, counts: Counts, x: u64) -> bool
-    ensures { result ≡ earlier_in counts (field_of class) x }
+fn is_earlier(class: Class, counts: &Counts, x: u64) -> bool
+    ensures { result ≡ earlier_in counts.now (field_of class) x }
 {
     match class {
         Class::Between(_, _) | Class::FloatWidth => true,
@@ -81,9 +81,9 @@ struct Seen {
 
 impl Seen {
     // One number more.
-    fn look(&mut self, class: Class, counts: Counts, x: u64)
+    fn look(&mut self, class: Class, counts: &Counts, x: u64)
         ensures ranged { self.new.ranged ≡ (self.old.ranged && in_range_of (field_of class) x) }
-        ensures earlier { self.new.earlier ≡ (self.old.earlier && earlier_in counts (field_of class) x) }
+        ensures earlier { self.new.earlier ≡ (self.old.earlier && earlier_in counts.now (field_of class) x) }
     {
         self.ranged &= in_range(class, x);
         self.earlier &= is_earlier(class, counts, x);
@@ -92,19 +92,20 @@ impl Seen {
 
 // From field 4 on all are of one class.
 #[tactic(auto, using(crate::proofs::CheckLaws::all_none), unfolding(crate::specs::Steps::args_in))]
-fn look_over(form: Form, numbers: &[u64], counts: Counts) -> Seen
-    ensures { (result.ranged ≡ all in_range (args_in form.kind form.word numbers.now)) × (result.earlier ≡ all (earlier_arg counts) (args_in form.kind form.word numbers.now)) }
+fn look_over(form: Form, numbers: &[u64], counts: &Counts) -> Seen
+    ensures { (result.ranged ≡ all in_range (args_in form.kind form.word numbers.now)) × (result.earlier ≡ all (earlier_arg counts.now) (args_in form.kind form.word numbers.now)) }
 {
     let mut seen = Seen {
         ranged: true,
         earlier: true,
     };
+    let rule = rule_of(form.kind, form.word);
     let (first, rest) = numbers.split_at(numbers.len().min(4));
     for (i, x) in first.iter().enumerate() {
-        seen.look(class_at(form.kind, form.word, i as u64), counts, *x);
+        seen.look(rule.class(i as u64), counts, *x);
     }
     if !rest.is_empty() {
-        let class = class_at(form.kind, form.word, 4);
+        let class = rule.class(4);
         for x in rest {
             seen.look(class, counts, *x);
         }
@@ -112,7 +113,7 @@ fn look_over(form: Form, numbers: &[u64], counts: Counts) -> Seen
     seen
 }
 
-// A storage's LENGTH by its KIND, and BIT by TYPE.
+// A storage's LENGTH by its KIND, and BIT by TYPE: numbers as they stand in a line.
 fn length_fit(kind: u64, len: u64) -> bool
     ensures { result ≡ length_fits kind len }
 {
@@ -136,9 +137,9 @@ fn fields_fit(form: Form, numbers: &[u64]) -> bool
 }
 
 // 9: depth.
-fn depth(class: Class, rows: &[u64], counts: Counts, x: u64) -> u64
-    requires { Few counts }
-    ensures { result ≡ depth_in rows.now counts (field_of class) x }
+fn depth(class: Class, rows: &[u64], counts: &Counts, x: u64) -> u64
+    requires { Few counts.now }
+    ensures { result ≡ depth_in rows.now counts.now (field_of class) x }
 {
     match class {
         Class::TypePart => cell(rows, 0, counts.types, x, 5, 1),
@@ -149,9 +150,9 @@ fn depth(class: Class, rows: &[u64], counts: Counts, x: u64) -> u64
 }
 
 // 7: each line is referred to once.
-fn mark_class(class: Class, rows: &mut [u64], counts: Counts, x: u64) -> bool
-    requires { Few counts × Roomy (length rows.old) counts }
-    ensures { Marking rows.old rows.new counts (field_of class) x result }
+fn mark_class(class: Class, rows: &mut [u64], counts: &Counts, x: u64) -> bool
+    requires { Few counts.now × Roomy (length rows.old) counts.now }
+    ensures { Marking rows.old rows.new counts.now (field_of class) x result }
 {
     match class {
         Class::PlaceLine => mark(rows, 4, counts.places, x),
@@ -161,9 +162,9 @@ fn mark_class(class: Class, rows: &mut [u64], counts: Counts, x: u64) -> bool
 }
 
 // 7 and the depth, a number more.
-fn mark_one(class: Class, rows: &mut [u64], counts: Counts, x: u64, most: u64) -> Option<u64>
-    requires { Few counts × Roomy (length rows.old) counts }
-    ensures { MarkedOne rows.old rows.new counts (field_of class) x most result }
+fn mark_one(class: Class, rows: &mut [u64], counts: &Counts, x: u64, most: u64) -> Option<u64>
+    requires { Few counts.now × Roomy (length rows.old) counts.now }
+    ensures { MarkedOne rows.old rows.new counts.now (field_of class) x most result }
 {
     if !mark_class(class, rows, counts, x) {
         return None;
@@ -172,19 +173,21 @@ fn mark_one(class: Class, rows: &mut [u64], counts: Counts, x: u64, most: u64) -
 }
 
 /// The depth of what numbers refer to, or one of them refers to a line a second time.
+// A free function: it asks less than a `Line` (crates/ticket) holds. It walks the numbers as `look_over` does: one walk for both would be
+// handed a closure that changes the rows, and be no plainer.
 #[tactic(auto, unfolding(crate::specs::Steps::args_in))]
-pub fn mark_all(form: Form, rows: &mut [u64], numbers: &[u64], counts: Counts) -> Option<u64>
-    requires { Few counts × Roomy (length rows.old) counts }
-    ensures { MarkedDeep rows.old rows.new counts (args_in form.kind form.word numbers.now) result }
+pub fn mark_all(form: Form, rows: &mut [u64], numbers: &[u64], counts: &Counts) -> Option<u64>
+    requires { Few counts.now × Roomy (length rows.old) counts.now }
+    ensures { MarkedDeep rows.old rows.new counts.now (args_in form.kind form.word numbers.now) result }
 {
+    let rule = rule_of(form.kind, form.word);
     let mut most: u64 = 0;
     let (first, rest) = numbers.split_at(numbers.len().min(4));
     for (i, x) in first.iter().enumerate() {
-        let class = class_at(form.kind, form.word, i as u64);
-        most = mark_one(class, rows, counts, *x, most)?;
+        most = mark_one(rule.class(i as u64), rows, counts, *x, most)?;
     }
     if !rest.is_empty() {
-        let class = class_at(form.kind, form.word, 4);
+        let class = rule.class(4);
         for x in rest {
             most = mark_one(class, rows, counts, *x, most)?;
         }
@@ -194,8 +197,8 @@ pub fn mark_all(form: Form, rows: &mut [u64], numbers: &[u64], counts: Counts) -
 
 /// 2, 8, 3 and 4, in this order.
 #[tactic(auto, unfolding(spec::specs::Read::first_failed))]
-pub fn early(form: Form, numbers: &[u64], counts: Counts) -> Result<(), Refusal>
-    ensures { verdict_of result ≡ first_failed (early_tests form numbers.now counts) }
+pub fn early(form: Form, numbers: &[u64], counts: &Counts) -> Result<(), Refusal>
+    ensures { verdict_of result ≡ first_failed (early_tests form numbers.now counts.now) }
 {
     if !ordered(counts.stage, rank(form.kind)) {
         return Err(Refusal::BadForm);

@@ -27,7 +27,8 @@ pub fn key_lines(len: usize) -> usize
     limits::KEY_LINES.min(len / 40)
 }
 
-// Where a key's word stands: five in each row behind those of lines, as marks are in the sixth.
+// Where a key's word stands: five in each row behind those of lines, as marks are in the sixth. With fewer than 40 words there is none, and a
+// line has 40 at least (`Roomy`).
 #[tactic(auto, using(crate::proofs::KeyLaws::keys_some, crate::proofs::KeyLaws::slot_is))]
 fn slot(len: usize, key: u64) -> usize
     requires { 40 ≤ len }

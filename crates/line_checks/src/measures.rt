@@ -21,12 +21,12 @@ use tables::{Counts, cell, word as number};
 fn alike_row(
     rows: &[u64],
     lists: &[u64],
-    counts: Counts,
+    counts: &Counts,
     k: u64,
     word: TypeWord,
     numbers: &[u64],
 ) -> bool
-    requires { Held rows.now counts × (counts.used ≤ length lists.now) × (k < counts.types) }
+    requires { Held rows.now counts.now × (counts.now.used ≤ length lists.now) × (k < counts.now.types) }
     ensures { result ≡ alike_to (word_of word) numbers.now (type_row lists.now (row_at rows.now (row_of 0 k))) }
 {
     if TypeWord::from(cell(rows, 0, counts.types, k, 0, 0)) != word {
@@ -37,11 +37,13 @@ fn alike_row(
     numbers == &lists[start..start + n]
 }
 
-// 5: a type alike. Only a type whose key is known is compared with the others.
+/// 5: a type alike. Only a type whose key is known is compared with the others. No `==`: a type is a row of words, and its numbers are in
+/// the lists.
+// A free function: it asks less than a `Line` (crates/ticket) holds.
 #[tactic(auto, using(crate::proofs::KeyLaws::unlike_known, crate::proofs::MeasureLaws::alike_start))]
-pub fn alike(rows: &[u64], lists: &[u64], counts: Counts, word: TypeWord, numbers: &[u64]) -> bool
-    requires { Held rows.now counts × Roomy (length rows.now) counts × Keyed rows.now lists.now counts.types × (counts.used ≤ length lists.now) }
-    ensures { result ≡ alike_of (word_of word) numbers.now (section (type_row lists.now) rows.now 0 counts.types) }
+pub fn alike(rows: &[u64], lists: &[u64], counts: &Counts, word: TypeWord, numbers: &[u64]) -> bool
+    requires { Held rows.now counts.now × Roomy (length rows.now) counts.now × Keyed rows.now lists.now counts.now.types × (counts.now.used ≤ length lists.now) }
+    ensures { result ≡ alike_of (word_of word) numbers.now (section (type_row lists.now) rows.now 0 counts.now.types) }
 {
     if !known(rows, word, numbers) {
         return false;

@@ -4,14 +4,14 @@ ghost use Rattle.line_checks.specs.Types.{part_of};
 
 use tables::cell;
 
-// The words of a row that are added up.
+// The words of a row that are added up: which of the two, as a parameter of the one sum over types.
 #[derive(Clone, Copy)]
 pub enum Part {
     Size,
     Weight,
 }
 
-/// The types' rows, and how many they are.
+/// The types' rows, and how many they are. `Lines` of tables has these look-ups too, over all counts, which would be copied for each line.
 #[derive(Clone, Copy)]
 pub struct Types<'a> {
     pub rows: &'a [u64],

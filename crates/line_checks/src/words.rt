@@ -26,7 +26,7 @@ impl TypeWord {
     }
 }
 
-/// By its number in a row: the first word where there is no such number.
+/// By its number in a row of lent words, which may be any: the first word where there is no such number.
 impl From<u64> for TypeWord {
     ghost from_gives = { λ n w. word_of w ≡ type_word_by n };
 

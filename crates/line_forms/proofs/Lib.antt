@@ -1,6 +1,5 @@
 pub mod FormLaws
 pub mod LineForms
-pub mod Classed
 pub mod NumberLaws
 pub mod Tries
 pub mod KindLaws

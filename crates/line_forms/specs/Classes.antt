@@ -88,10 +88,6 @@ form_arg f ls used = arg_at (class_at f.kind f.word) (number_at ls used)
 unfoldable pub args_of : Form → List ℕ → ℕ → List Arg
 args_of f ls used = tab (form_arg f ls used) 0 f.count
 
--- n numbers of one class
-unfoldable pub classed : Field → List ℕ → ℕ → ℕ → List Arg
-classed c ls from n = tab (arg_at (λ i. c) (number_at ls from)) 0 n
-
 unfoldable pub line_from : Form → List ℕ → ℕ → Line
 line_from f ls used = record { head = head_of f.kind f.word; args = args_of f ls used }
 

@@ -1,14 +1,15 @@
 // The form of a line: its kind, its word and its numbers.
 #![tactic(auto)]
 
-ghost use Rattle.std.specs.Prelude.{◌≡◌, ◌+◌, ◌*◌, ◌≤◌, ◌<◌, length};
+ghost use Rattle.std.specs.Prelude.{◌≡◌, ◌+◌, ◌*◌, ◌≤◌, ◌<◌, length, map, option_map};
 ghost use Rattle.tables.specs.Tables.{run};
 ghost use Rattle.fields.specs.Fields.{fields_from, numbers_of, onto, WordAt};
 ghost use Rattle.spec.specs.Forms.{node_form, line_of, form_of};
-ghost use Rattle.line_forms.specs.Classes.{field_of, fields_of, rest_of, fits, class_at, FormAt, form_by_number, kind_of, OneByte, KindAt};
+ghost use Rattle.line_forms.specs.Classes.{field_of, fields_of, rest_of, fits, class_in, FormAt, form_by_number, kind_of, OneByte, KindAt};
 ghost use Rattle.line_forms.specs.Rules.{RuleIn, RuleOf, AllTried};
 
 use Class::{Between, FloatWidth, NodeLine, PlaceLine, StorageLine, TypeLine, TypePart};
+use fields::Likely;
 
 // Kinds of lines, in their order.
 #[derive(Clone, Copy, Debug, PartialEq, Eq)]
@@ -42,8 +43,8 @@ pub struct Form {
     pub count: usize,
 }
 
-// The numbers behind a word: fields of these classes, and any number of the class of the rest, where there is one.
-struct Rule(&'static [Class], Option<Class>);
+/// The numbers behind a word: fields of these classes, and any number of the class of the rest, where there is one.
+pub struct Rule(&'static [Class], Option<Class>);
 
 const BIT: Class = Between(0, 1);
 
@@ -112,7 +113,8 @@ fn rule_in(rules: &'static [Rule], word: u64, other: &'static Rule) -> &'static 
     rules.get(word as usize).unwrap_or(other)
 }
 
-fn rule_of(kind: LineKind, word: u64) -> &'static Rule
+/// The rule of a kind's word.
+pub fn rule_of(kind: LineKind, word: u64) -> &'static Rule
     ensures { RuleOf kind word result.now }
 {
     match kind {
@@ -125,14 +127,15 @@ fn rule_of(kind: LineKind, word: u64) -> &'static Rule
     }
 }
 
-/// The class of a line's field i.
-pub fn class_at(kind: LineKind, word: u64, i: u64) -> Class
-    ensures { field_of result ≡ class_at kind word i }
-{
-    let rule = rule_of(kind, word);
-    match rule.0.get(i as usize) {
-        Some(class) => *class,
-        None => rule.1.unwrap_or(SHORT),
+impl Rule {
+    /// The class of field i.
+    pub fn class(&self, i: u64) -> Class
+        ensures { field_of result ≡ class_in (map field_of self.now.0.now) (option_map field_of self.now.1) i }
+    {
+        match self.0.get(i as usize) {
+            Some(class) => *class,
+            None => self.1.unwrap_or(SHORT),
+        }
     }
 }
 
@@ -146,31 +149,7 @@ fn count_fits(kind: LineKind, word: u64, count: usize) -> bool
     }
 }
 
-// The numbers to the line's end, behind `first` that stand there already.
-#[tactic(auto, using(crate::proofs::NumberLaws::numbered_laws))]
-fn numbered(
-    line: &[u8],
-    at: usize,
-    lists: &mut [u64],
-    used: usize,
-    first: usize,
-    kind: LineKind,
-    word: u64,
-) -> Option<Form>
-    requires { (used * 2 + length line.now ≤ length lists.old * 2) × (first * 2 + 1 ≤ at) × (at ≤ length line.now + 1) }
-    ensures { FormAt (form_by_number kind word (onto (run lists.old used first) (numbers_of (fields_from line.now at))))
-        line.now lists.old lists.new used result }
-{
-    let from = used + first;
-    let count = first + fields::numbers(line, at, lists, from)?;
-    if count_fits(kind, word, count) {
-        Some(Form { kind, word, count })
-    } else {
-        None
-    }
-}
-
-// Words, where each stands among them, and which is likely by what `mixed` gives of it.
+// Words, where each stands among them, and which is likely by what `mixed` gives of it: one past the last where none is.
 struct Words {
     all: &'static [u8],
     spans: &'static [(u8, u8)],
@@ -246,56 +225,86 @@ fn mixed(line: &[u8], at: usize) -> usize
     }
 }
 
-// The place of the field at a position among the words, and where the field behind it starts.
+// The place of the field at a position among the words, and where the field behind it starts: a look-up, and no conversion.
 fn word(line: &[u8], at: usize, words: &Words) -> Option<(u64, usize)>
     requires { AllTried words.now }
     ensures { WordAt line.now words.now.all.now at result }
 {
     let k = words.likely[mixed(line, at)];
     match words.spans.get(usize::from(k)) {
-        Some((start, end)) => fields::word_tried(
-            line,
-            at,
-            words.all,
-            u64::from(k),
-            usize::from(*start),
-            usize::from(*end),
-        ),
+        Some((start, end)) => {
+            let likely = Likely {
+                place: u64::from(k),
+                start: usize::from(*start),
+                end: usize::from(*end),
+            };
+            fields::word_tried(line, at, words.all, likely)
+        }
         None => fields::word(line, at, words.all),
     }
 }
 
-// A node's TYPE stands before its word.
-#[tactic(auto, using(crate::proofs::LineForms::formed))]
-fn node_form(line: &[u8], at: usize, lists: &mut [u64], used: usize) -> Option<Form>
-    requires { (used * 2 + length line.now ≤ length lists.old * 2) × (1 ≤ at) }
-    ensures { FormAt (node_form (fields_from line.now at))
-        line.now lists.old lists.new used result }
-{
-    let (ty, behind) = fields::number(line, at)?;
-    let (w, next) = word(line, behind, &NODE_WORDS)?;
-    lists[used] = ty;
-    numbered(line, next, lists, used, 1, LineKind::Nodes, w)
+// A line's text, and the lists that its numbers go into.
+#[derive(Drop)]
+struct LineText<'a> {
+    line: &'a [u8],
+    lists: &'a mut [u64],
+    used: usize,
+    ghost room: { used * 2 + length line.now ≤ length lists.now * 2 },
 }
 
-// What stands from a position on in a line of a kind.
-#[tactic(auto, using(crate::proofs::LineForms::formed))]
-fn form_of(kind: LineKind, line: &[u8], at: usize, lists: &mut [u64], used: usize) -> Option<Form>
-    requires { (used * 2 + length line.now ≤ length lists.old * 2) × (1 ≤ at) × (at ≤ length line.now + 1) }
-    ensures { FormAt (form_of (kind_of kind) (fields_from line.now at))
-        line.now lists.old lists.new used result }
-{
-    match kind {
-        LineKind::Types => {
-            let (w, next) = word(line, at, &TYPE_WORDS)?;
-            numbered(line, next, lists, used, 0, kind, w)
+impl LineText<'_> {
+    // The numbers to the line's end, behind `first` that stand there already.
+    #[tactic(auto, using(crate::proofs::NumberLaws::numbered_laws))]
+    fn numbered(&mut self, at: usize, first: usize, kind: LineKind, word: u64) -> Option<Form>
+        requires { (first * 2 + 1 ≤ at) × (at ≤ length self.old.line.now + 1) }
+        ensures same { self.new.lists.ghost_name ≡ self.old.lists.ghost_name }
+        ensures form { FormAt (form_by_number kind word (onto (run self.old.lists.now self.old.used first) (numbers_of (fields_from self.old.line.now at))))
+            self.old.line.now self.old.lists.now self.new.lists.now self.old.used result }
+    {
+        let from = self.used + first;
+        let count = first + fields::numbers(self.line, at, self.lists, from)?;
+        if count_fits(kind, word, count) {
+            Some(Form { kind, word, count })
+        } else {
+            None
         }
-        LineKind::Places => {
-            let (w, next) = word(line, at, &PLACE_WORDS)?;
-            numbered(line, next, lists, used, 0, kind, w)
+    }
+
+    // A node's TYPE stands before its word.
+    #[tactic(auto, using(crate::proofs::LineForms::formed))]
+    fn node_form(&mut self, at: usize) -> Option<Form>
+        requires { 1 ≤ at }
+        ensures same { self.new.lists.ghost_name ≡ self.old.lists.ghost_name }
+        ensures form { FormAt (node_form (fields_from self.old.line.now at))
+            self.old.line.now self.old.lists.now self.new.lists.now self.old.used result }
+    {
+        let (ty, behind) = fields::number(self.line, at)?;
+        let (w, next) = word(self.line, behind, &NODE_WORDS)?;
+        self.lists[self.used] = ty;
+        self.numbered(next, 1, LineKind::Nodes, w)
+    }
+
+    // What stands from a position on in a line of a kind.
+    #[tactic(auto, using(crate::proofs::LineForms::formed))]
+    fn form_of(&mut self, kind: LineKind, at: usize) -> Option<Form>
+        requires { (1 ≤ at) × (at ≤ length self.old.line.now + 1) }
+        ensures same { self.new.lists.ghost_name ≡ self.old.lists.ghost_name }
+        ensures form { FormAt (form_of (kind_of kind) (fields_from self.old.line.now at))
+            self.old.line.now self.old.lists.now self.new.lists.now self.old.used result }
+    {
+        match kind {
+            LineKind::Types => {
+                let (w, next) = word(self.line, at, &TYPE_WORDS)?;
+                self.numbered(next, 0, kind, w)
+            }
+            LineKind::Places => {
+                let (w, next) = word(self.line, at, &PLACE_WORDS)?;
+                self.numbered(next, 0, kind, w)
+            }
+            LineKind::Nodes => self.node_form(at),
+            _ => self.numbered(at, 0, kind, 0),
         }
-        LineKind::Nodes => node_form(line, at, lists, used),
-        _ => numbered(line, at, lists, used, 0, kind, 0),
     }
 }
 
@@ -325,12 +334,14 @@ fn line_kind(line: &[u8]) -> Option<LineKind>
     }
 }
 
-/// The form of a line without its line feed.
+/// The form of a line without its line feed. Its numbers go into the lists, behind the first `used`: one lent slice for all lines, as there is
+/// no heap.
 #[tactic(auto, using(crate::proofs::LineForms::formed))]
 pub fn line_form(line: &[u8], lists: &mut [u64], used: usize) -> Option<Form>
     requires { used * 2 + length line.now ≤ length lists.old * 2 }
     ensures { FormAt (line_of line.now) line.now lists.old lists.new used result }
 {
     let kind = line_kind(line)?;
-    form_of(kind, line, 2, lists, used)
+    let mut text = LineText { line, lists, used };
+    text.form_of(kind, 2)
 }

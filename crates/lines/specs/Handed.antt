@@ -38,7 +38,7 @@ abbrev pub told : Result (Bor (List ℕ)) (Refused Refusal) → ℕ
 told (Ok r) = 0
 told (Err e) = refusal_number e.refusal
 
--- the answer a: its part, or the refusal's number for line 0
+-- no buffer is filled, and so this is no `AnswersBy` (crates/answers): the answer a: its part, or the refusal's number for line 0
 pub record Handed (a : Answer) (ticket listing : Bor (List ℕ)) (r : Result (Bor (List ℕ)) (Refused Refusal)) : Type 0 where
   pub part : IfOk r (λ x. part_of ticket listing x a)
   pub number : told r ≡ number a

@@ -24,6 +24,7 @@ pub enum Refusal {
 impl Numbered for Refusal {
     ghost number_of = { refusal_number };
 
+    // The format's numbers, by a match as for every enum of refusals (see `Numbered`).
     fn number(&self) -> u64 {
         match self {
             Refusal::NoLine => 34,
@@ -32,6 +33,7 @@ impl Numbered for Refusal {
 }
 
 // Where the k-th line that begins with `start`, counted from 0, starts and ends. What no line feed ends is no line.
+// The place is asked, which parts of the library's `split` do not tell: where a line ends is found by reading it, and no index is counted.
 #[tactic(auto, using(crate::proofs::Laws::nth_laws))]
 fn nth_line(text: &[u8], start: &[u8], k: u64) -> Option<(usize, usize)>
     ensures { result ≡ span_of (nth_line text.now start.now k) }

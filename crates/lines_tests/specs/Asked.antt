@@ -1,8 +1,9 @@
 -- What a case expects: where the line stands, and the part that is handed back. Text 0 is the ticket, 1 the listing, any other neither.
-use Rattle.std.specs.Prelude.{ℕ, ◌-◌, ◌≡◌, Bool, true, ◌&&◌, List, [], eqb, take, drop, if◌then◌else◌, Option, None, Some}
+use Rattle.std.specs.Prelude.{ℕ, ◌-◌, ◌≡◌, Bool, true, ◌&&◌, List, [], eqb, take, drop, if◌then◌else◌, Option, None, Some, Result, Ok, Err}
 use Rattle.lines.specs.Lines.{Answer, of_ticket, of_listing, missing, number, storage_line}
 use Rattle.lines.specs.Handed.{place_of}
 use Rattle.lines.specs.declared.Place.{Place}
+use Rattle.cases.specs.declared.Broken.{Broken}
 
 abbrev pub stands : ℕ → ℕ → ℕ → Option Place → Bool
 stands text from to (Some (Place.Ticket a b)) = eqb text 0 && (eqb a from && eqb b to)
@@ -17,6 +18,20 @@ part ticket listing text from to = if eqb text 0 then between from to ticket els
 
 abbrev pub refusal : ℕ → ℕ
 refusal text = if eqb text 0 then 0 else (if eqb text 1 then 0 else 34)
+
+-- the same, of the place that a head's numbers name, if they name one
+abbrev pub place_at : ℕ → ℕ → ℕ → Result (Option Place) Broken
+place_at text from to =
+    if eqb text 0 then Ok (Some (Place.Ticket from to)) else (if eqb text 1 then Ok (Some (Place.Listing from to)) else (if eqb text 2 then Ok None else Err (record {})))
+
+abbrev pub part_at : List ℕ → List ℕ → Option Place → List ℕ
+part_at ticket listing (Some (Place.Ticket from to)) = between from to ticket
+part_at ticket listing (Some (Place.Listing from to)) = between from to listing
+part_at ticket listing None = []
+
+abbrev pub refusal_at : Option Place → ℕ
+refusal_at (Some p) = 0
+refusal_at None = 34
 
 abbrev pub bytes_of : Answer → List ℕ
 bytes_of (of_ticket l) = l.bytes

@@ -3,29 +3,26 @@
 // TO are where it starts and where its line feed stands. Prints how many ran and how many were answered otherwise.
 #![tactic(auto)]
 
-ghost use Rattle.std.specs.Prelude.{◌≡◌, ◌&&◌, eqb};
+ghost use Rattle.std.specs.Prelude.{◌≡◌};
 ghost use Rattle.lines.specs.Lines.{storage_line};
-ghost use Rattle.lines.specs.Handed.{place_of};
-ghost use Rattle.lines_tests.specs.Asked.{stands, between, part, refusal as refusal_of, Gives, Holds};
+ghost use Rattle.lines_tests.specs.Asked.{place_at, part_at, refusal_at, Gives, Holds};
 
 use answers::Numbered;
+use cases::Broken;
 use lines::Place;
 use std::io::{self, Read};
 
-// Whether a is c, and b is d.
-fn equal(a: u64, b: u64, c: u64, d: u64) -> bool
-    ensures { result ≡ (eqb a c && eqb b d) }
+// The place that a case's head names: the text by its number, and in it from where to where.
+fn expected(text: u64, from: u64, to: u64) -> Result<Option<Place>, Broken>
+    ensures { result ≡ place_at text from to }
 {
-    a == c && b == d
-}
-
-fn placed(ticket: &[u8], listing: &[u8], k: u64, text: u64, from: u64, to: u64) -> bool
-    ensures { result ≡ stands text from to (place_of (storage_line ticket.now listing.now k)) }
-{
-    match lines::storage_place(ticket, listing, k) {
-        Some(Place::Ticket(a, b)) => text == 0 && equal(a as u64, b as u64, from, to),
-        Some(Place::Listing(a, b)) => text == 1 && equal(a as u64, b as u64, from, to),
-        None => text == 2,
+    let from = from as usize;
+    let to = to as usize;
+    match text {
+        0 => Ok(Some(Place::Ticket(from, to))),
+        1 => Ok(Some(Place::Listing(from, to))),
+        2 => Ok(None),
+        _ => Err(Broken),
     }
 }
 
@@ -38,35 +35,29 @@ fn handed<'a>(ticket: &'a [u8], listing: &'a [u8], k: u64, bytes: &[u8], refusal
     }
     match lines::storage_line(ticket, listing, k) {
         Ok(part) => refusal == 0 && fields::same(part, bytes),
-        Err(e) => equal(e.refusal.number(), e.line, refusal, 0),
+        Err(e) => (e.refusal.number(), e.line) == (refusal, 0),
     }
 }
 
-// The part is what stands in s at the expected place.
-fn handed_of<'a>(ticket: &'a [u8], listing: &'a [u8], k: u64, s: &[u8], from: u64, to: u64) -> bool
-    ensures { Gives (storage_line ticket.now listing.now k) (between from to s.now) 0 result }
+// The part is what stands at the expected place; where none is expected, it is empty.
+fn handed_at<'a>(ticket: &'a [u8], listing: &'a [u8], k: u64, place: Option<Place>) -> bool
+    ensures { Gives (storage_line ticket.now listing.now k) (part_at ticket.now listing.now place) (refusal_at place) result }
 {
-    match s.get(from as usize..to as usize) {
-        Some(part) => handed(ticket, listing, k, part, 0),
-        None => false,
-    }
-}
-
-// The text that holds the line is named by its number.
-fn handed_in<'a>(ticket: &'a [u8], listing: &'a [u8], k: u64, text: u64, from: u64, to: u64) -> bool
-    ensures { Gives (storage_line ticket.now listing.now k) (part ticket.now listing.now text from to) (refusal_of text) result }
-{
-    match text {
-        0 => handed_of(ticket, listing, k, ticket, from, to),
-        1 => handed_of(ticket, listing, k, listing, from, to),
-        _ => handed(ticket, listing, k, b"", 34),
-    }
+    let part = match place {
+        Some(Place::Ticket(from, to)) => ticket.get(from..to),
+        Some(Place::Listing(from, to)) => listing.get(from..to),
+        None => return handed(ticket, listing, k, b"", 34),
+    };
+    part.is_some_and(|bytes| handed(ticket, listing, k, bytes, 0))
 }
 
 fn holds<'a>(ticket: &'a [u8], listing: &'a [u8], k: u64, text: u64, from: u64, to: u64) -> bool
     ensures { Holds ticket.now listing.now k text from to result }
 {
-    placed(ticket, listing, k, text, from, to) && handed_in(ticket, listing, k, text, from, to)
+    let Ok(place) = expected(text, from, to) else {
+        return false;
+    };
+    lines::storage_place(ticket, listing, k) == place && handed_at(ticket, listing, k, place)
 }
 
 // Whether the next case holds.
@@ -77,19 +68,13 @@ fn replay<R: Read>(reader: &mut R) -> Option<bool> {
     let [a, b, k, text, from, to] = head;
     let mut ticket = [0; 65536];
     let mut listing = [0; 65536];
-    let a = a as usize;
-    let b = b as usize;
-    if !cases::read(reader, &mut ticket, a) || !cases::read(reader, &mut listing, b) {
+    let Some(ticket) = cases::read(reader, &mut ticket, a as usize) else {
         return Some(false);
-    }
-    Some(holds(
-        cases::first(&ticket, a),
-        cases::first(&listing, b),
-        k,
-        text,
-        from,
-        to,
-    ))
+    };
+    let Some(listing) = cases::read(reader, &mut listing, b as usize) else {
+        return Some(false);
+    };
+    Some(holds(ticket, listing, k, text, from, to))
 }
 
 fn main(rt: HostRuntime) -> io::Result<()> {

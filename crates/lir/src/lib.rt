@@ -38,6 +38,7 @@ pub enum ByteOperand {
     Storage(ByteStorage),
 }
 
+// Beside `ByteOperand` as in the Rust, where the two constants have names of their own; one generic enum would drop one of them.
 #[derive(Clone, Copy, Debug, PartialEq, Eq)]
 pub enum BitOperand {
     Constant(u64),
@@ -187,6 +188,8 @@ pub struct NewStorage {
 
 // ---------------------------------------------------------------- numbers for names
 
+// The listing's own numbers: discriminants where the enum has no values, so that no match stands beside it.
+
 impl ShiftOp {
     #[tactic(auto, unfolding(spec::specs::Print::shift_number))]
     fn number(self) -> u64
@@ -233,6 +236,7 @@ impl Purpose {
 }
 
 impl StorageKind {
+    // A match, as one of its variants has a value.
     #[tactic(auto, unfolding(spec::specs::Print::kind_number))]
     fn number(self) -> u64
         ensures { result ≡ kind_number (storage_kind_of self) }
@@ -307,6 +311,7 @@ impl Fields for u64 {
     }
 }
 
+// Three types that document 01 names; the text of each is its number.
 impl Fields for StorageId {
     ghost texts = { λ s. digits s.0 ∷ [] };
 

@@ -9,32 +9,25 @@ ghost use Rattle.spec.specs.Answer.{answer};
 ghost use Rattle.cases.specs.Cases.{Right};
 ghost use Rattle.listing_tests.specs.Asked.{Roomy};
 
-use answers::Numbered;
 use std::io::{self, Read};
 
 fn answered(ticket: &[u8], expected: &[u8], buffer: &mut [u8]) -> bool
     ensures { Right (answer ticket.now (length buffer.old)) expected.now result }
 {
     cases::fill(buffer);
-    match compiler::lower(ticket, buffer) {
-        Ok(n) => cases::accepted(n, expected, buffer),
-        Err(e) => cases::refused(e.refusal.number(), e.line, expected, buffer),
-    }
+    let answer = compiler::lower(ticket, buffer);
+    cases::judged(answer, expected, buffer)
 }
 
 // The entry is lent the first `room` bytes, and the others stay as they are.
 fn answered_within(ticket: &[u8], expected: &[u8], buffer: &mut [u8], room: usize) -> bool
     ensures { Right (answer ticket.now room) expected.now result }
 {
-    if buffer.len() < room {
-        return false;
-    }
-    cases::fill(buffer);
-    let part = &mut buffer[..room];
-    answered(ticket, expected, part) && cases::untouched(buffer, room)
+    cases::within(buffer, room, |part| answered(ticket, expected, part))
 }
 
 // Just enough room is enough, and a byte less is refused.
+#[tactic(auto, using(crate::proofs::Laws::roomy_so, crate::proofs::Laws::roomy_not))]
 fn roomy(ticket: &[u8], listing: &[u8], buffer: &mut [u8]) -> bool
     ensures { Roomy ticket.now listing.now result }
 {
@@ -50,10 +43,8 @@ fn holds(ticket: &[u8], expected: &[u8], buffer: &mut [u8]) -> bool
     ensures { Right (answer ticket.now (length buffer.old)) expected.now result }
 {
     cases::fill(buffer);
-    match compiler::lower(ticket, buffer) {
-        Ok(n) => cases::accepted(n, expected, buffer) && roomy(ticket, expected, buffer),
-        Err(e) => cases::refused(e.refusal.number(), e.line, expected, buffer),
-    }
+    let answer = compiler::lower(ticket, buffer);
+    cases::judged(answer, expected, buffer) && (answer.is_err() || roomy(ticket, expected, buffer))
 }
 
 // The next ticket, behind its head.
@@ -61,20 +52,17 @@ fn replay<R: Read>(reader: &mut R) -> Option<bool> {
     let Ok(head) = cases::block_head::<2, R>(reader, 16)? else {
         return Some(false);
     };
-    let [a, b] = head;
+    let [size, length] = head;
     let mut ticket = [0; 65540];
     let mut expected = [0; 65536];
     let mut buffer = [0; 65536];
-    let a = a as usize;
-    let b = b as usize;
-    if !cases::read(reader, &mut ticket, a) || !cases::read(reader, &mut expected, b) {
+    let Some(ticket) = cases::read(reader, &mut ticket, size as usize) else {
         return Some(false);
-    }
-    Some(holds(
-        cases::first(&ticket, a),
-        cases::first(&expected, b),
-        &mut buffer,
-    ))
+    };
+    let Some(expected) = cases::read(reader, &mut expected, length as usize) else {
+        return Some(false);
+    };
+    Some(holds(ticket, expected, &mut buffer))
 }
 
 fn main(rt: HostRuntime) -> io::Result<()> {

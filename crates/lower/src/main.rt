@@ -3,60 +3,31 @@
 // Where a read or a write fails, standard error names the stream, and main returns the error.
 #![tactic(auto)]
 
-ghost use Rattle.std.specs.Prelude.{◌+◌, ◌≤◌, length};
+ghost use Rattle.std.specs.Prelude.{◌≤◌, length, IfOk};
 
 use std::io::{self, Read};
 
-// How many bytes were read, and the error if a read failed.
-#[derive(Drop)]
-struct Got {
-    count: usize,
-    failed: Option<io::Error>,
-}
-
-// One read, behind the first `at` bytes.
-fn read_some<R: Read>(reader: &mut R, text: &mut [u8], at: usize) -> Got
-    requires { at ≤ length text.old }
-    ensures { at + result.count ≤ length text.new }
+// Reads until the input ends or the text is full: a longer input is not held whole.
+fn read_text<R: Read>(reader: &mut R, text: &mut [u8]) -> io::Result<usize>
+    ensures { IfOk result (λ n. n ≤ length text.new) }
 {
-    match reader.read(&mut text[at..]) {
-        Ok(count) => Got {
-            count,
-            failed: None,
-        },
-        Err(e) => Got {
-            count: 0,
-            failed: Some(e),
-        },
-    }
-}
-
-// Reads until the input ends, a read fails or the text is full: a longer input is not held whole.
-fn read_text<R: Read>(reader: &mut R, text: &mut [u8]) -> Got
-    ensures { result.count ≤ length text.new }
-{
-    let mut at: usize = 0;
+    let mut at = 0;
+    // It goes by what each read gave, so there is no counted index.
     while at < text.len() {
-        let got = read_some(reader, text, at);
-        if got.count == 0 {
-            return Got {
-                count: at,
-                failed: got.failed,
-            };
+        let n = reader.read(&mut text[at..])?;
+        if n == 0 {
+            break;
         }
-        at += got.count;
+        at += n;
     }
-    Got {
-        count: at,
-        failed: None,
-    }
+    Ok(at)
 }
 
 // A text over 65,536 bytes is refused by its length alone.
 fn respond(rt: &impl Print, ticket: &[u8]) -> io::Result<()> {
     let mut buffer = [0u8; 65536];
     match compiler::lower(ticket, &mut buffer) {
-        Ok(end) => rt.write_all(&buffer[..end]),
+        Ok(n) => rt.write_all(&buffer[..n]),
         Err(refused) => println!(rt; "{refused}"),
     }
 }
@@ -67,13 +38,14 @@ fn fail(rt: &impl Eprint, what: &str, e: io::Error) -> io::Result<()> {
     Err(e)
 }
 
+// The text and the listing stand in arrays as long as they can be: there is no heap.
 fn main(rt: HostRuntime) -> io::Result<()> {
     let mut text = [0u8; 65537];
-    let got = read_text(&mut rt.stdin(), &mut text);
-    if let Some(e) = got.failed {
-        return fail(&rt, "standard input", e);
-    }
-    match respond(&rt, &text[..got.count]) {
+    let n = match read_text(&mut rt.stdin(), &mut text) {
+        Ok(n) => n,
+        Err(e) => return fail(&rt, "standard input", e),
+    };
+    match respond(&rt, &text[..n]) {
         Ok(()) => Ok(()),
         Err(e) => fail(&rt, "standard output", e),
     }

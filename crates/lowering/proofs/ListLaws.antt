@@ -25,9 +25,9 @@ use Rattle.lowering.proofs.RoomLaws.{head_fits, part_room, parts_room}
 -- of the n parts, those from i on are left: what these leave, the whole leaves
 pub record Rest (t : Tables) (d a n : ℕ) (l₀ : Lowering) (i : ℕ) (l : Lowering) : Type 0 where
   pub above : l₀.top ≤ l.top
-  pub room : ListRoom (ticket_of t) (kids (ticket_of t) t.lists.now d (a + i) (n - i)) l
-  pub whole : {l' : Lowering} {r : Result (Unit {0}) (Refused Refusal)} → MeetsList (n - i) l (lower_expressions (ticket_of t) (kids (ticket_of t) t.lists.now d (a + i) (n - i)) nowhere (counters_in l)) l' r
-      → MeetsList n l₀ (lower_expressions (ticket_of t) (kids (ticket_of t) t.lists.now d a n) nowhere (counters_in l₀)) l' r
+  pub room : ListRoom (ticket_of t.lines) (kids (ticket_of t.lines) t.lines.lists.now d (a + i) (n - i)) l
+  pub whole : {l' : Lowering} {r : Result (Unit {0}) (Refused Refusal)} → MeetsList (n - i) l (lower_expressions (ticket_of t.lines) (kids (ticket_of t.lines) t.lines.lists.now d (a + i) (n - i)) nowhere (counters_in l)) l' r
+      → MeetsList n l₀ (lower_expressions (ticket_of t.lines) (kids (ticket_of t.lines) t.lines.lists.now d a n) nowhere (counters_in l₀)) l' r
 
 module _ (T : ticket.Tables) (lists : List ℕ) (d a i n : ℕ) where
   list_here : (c : monad.Counters) → (n ≡ 0 → ⊥) → lower_expressions T (kids T lists d (a + i) n) nowhere c
@@ -36,7 +36,7 @@ module _ (T : ticket.Tables) (lists : List ℕ) (d a i n : ℕ) where
   list_here c h = let e : a + (i + 1) ≡ a + i + 1 = omega arith in rw (e, run_here lists (a + i) n h)
 
 -- before the first part
-pub rest_all : {t : Tables} {d a n : ℕ} {l : Lowering} → ListRoom (ticket_of t) (kids (ticket_of t) t.lists.now d (a + 0) (n - 0)) l → Rest t d a n l 0 l
+pub rest_all : {t : Tables} {d a n : ℕ} {l : Lowering} → ListRoom (ticket_of t.lines) (kids (ticket_of t.lines) t.lines.lists.now d (a + 0) (n - 0)) l → Rest t d a n l 0 l
 rest_all {a = a} {n} q =
     let e : a + 0 ≡ a = omega arith in
     let g : n - 0 ≡ n = omega arith in
@@ -44,10 +44,10 @@ rest_all {a = a} {n} q =
 
 module _ {t : Tables} {d a n : ℕ} {l₀ : Lowering} {i : ℕ} {l : Lowering} (g : Rest t d a n l₀ i l) where
   abbrev T : ticket.Tables
-  T = ticket_of t
+  T = ticket_of t.lines
 
   abbrev lists : List ℕ
-  lists = t.lists.now
+  lists = t.lines.lists.now
 
   -- behind the last part
   pub rest_none : n ≤ i → MeetsList n l₀ (lower_expressions T (kids T lists d a n) nowhere (counters_in l₀)) l (Ok tt)

@@ -52,10 +52,10 @@ module _ (T : spec.Tables) (lists : List ℕ) (d : ℕ) (h at : At) (c : monad.C
   operation_refused (inr w) = rw w.2 refl
 
 -- the tree of a line, by its kind
-pub found : (t : Tables) (d k : ℕ) (h : d ≡ 0 → ⊥) {line ty : ℕ} {kind : NodeKind} → line ≡ node_line_at t.rows.now t.counts k → ty ≡ node_type_at t.rows.now t.lists.now t.counts k
-    → kind ≡ node_kind_at t.rows.now t.lists.now t.counts k
-    → expr_at d (ticket_of t) k ≡ tree_of (ticket_of t) t.lists.now (d - 1) (record { line = line; node = k; ty = ty }) kind
-found t d k h {kind = kind} e g q = rw (e, g) (tree_here t.rows.now t.lists.now t.counts d k kind h (sym q))
+pub found : (t : Tables) (d k : ℕ) (h : d ≡ 0 → ⊥) {line ty : ℕ} {kind : NodeKind} → line ≡ node_line_at t.lines.rows.now t.lines.counts k → ty ≡ node_type_at t.lines.rows.now t.lines.lists.now t.lines.counts k
+    → kind ≡ node_kind_at t.lines.rows.now t.lines.lists.now t.lines.counts k
+    → expr_at d (ticket_of t.lines) k ≡ tree_of (ticket_of t.lines) t.lines.lists.now (d - 1) (record { line = line; node = k; ty = ty }) kind
+found t d k h {kind = kind} e g q = rw (e, g) (tree_here t.lines.rows.now t.lines.lists.now t.lines.counts d k kind h (sym q))
 
 module _ (l : Lowering) (n : NodeId) (cl : length l.out.code.buf.now ≤ 18446744073709551615) (ca : l.out.code.at ≤ 18446744073709551615) (sl : length l.out.store.buf.now ≤ 18446744073709551615) (sa : l.out.store.at ≤ 18446744073709551615) where
   abbrev pub inside : Lowering

@@ -25,11 +25,11 @@ use Rattle.reads.proofs.Bounds.{weight_least}
 use Rattle.lowering.specs.Nodes.{kids}
 use Rattle.lowering.specs.Rooms.{TreeRoom, ListRoom, NodeRoom}
 use Rattle.lowering.proofs.Sums.{sum_least, sum_le, cost, after, top_after, node_after, topped}
-use Rattle.lowering.proofs.StepLaws.{LowersHead, LowersValue}
+use Rattle.lowering.proofs.StepLaws.{LowersHead, LowersValue, lowered}
 
 module _ (t : Tables) where
   abbrev T : ticket.Tables
-  T = ticket_of t
+  T = ticket_of t.lines
 
   abbrev R : TypesRight T
   R = t.readable.types
@@ -52,11 +52,11 @@ module _ (t : Tables) where
 
     pub one_ready : {l1 : Lowering} {x : Val} → LowersHead T a l l1 x → Sound_value x × StepRoom T n ty l1
     one_ready d = (
-      d.done.shows.sound,
+      (lowered d).shows.sound,
       record {
-        node = node_after d.done q.node;
-        room = after T R a d.done 4096 (room_less (omega (arith, s (cost T))) q.tree.room);
-        top = omega (arith, s (weight_of T), q.tree.top, topped d.done, d.done.left.long);
+        node = node_after (lowered d) q.node;
+        room = after T R a (lowered d) 4096 (room_less (omega (arith, s (cost T))) q.tree.room);
+        top = omega (arith, s (weight_of T), q.tree.top, topped (lowered d), (lowered d).left.long);
       },
     )
 
@@ -64,7 +64,7 @@ module _ (t : Tables) where
     pub one_stands : {l1 : Lowering} {x : Val} → LowersValue T a l l1 x → (l.top ≤ l1.top) × (l1.top ≤ length l1.stack.now) × Stands l1.stack.now l.top l1.top
     one_stands d =
         let h = tree_top a one_room in
-        (omega (arith, d.done.left.topped), left_fits d.done.left h, stands_left d.done.left h)
+        (omega (arith, (lowered d).left.topped), left_fits (lowered d).left h, stands_left (lowered d).left h)
 
   -- ---------------------------------------------------------------- two operands
 
@@ -78,26 +78,26 @@ module _ (t : Tables) where
     module _ {l1 : Lowering} {x : Val} where
       module _ (d : LowersHead T a l l1 x) where
         pub second_room : TreeRoom T b l1
-        second_room = record { room = after T R a d.done (node_sum (cost T) b + 4096) both_room; top = omega (arith, s (weight_of T), q.tree.top, topped d.done, d.done.left.long) }
+        second_room = record { room = after T R a (lowered d) (node_sum (cost T) b + 4096) both_room; top = omega (arith, s (weight_of T), q.tree.top, topped (lowered d), (lowered d).left.long) }
 
         pub two_ready : {l2 : Lowering} {y : Val} → LowersHead T b l1 l2 y → Sound_value x × Sound_value y × StepRoom T n ty l2
         two_ready g = (
-          d.done.shows.sound,
-          g.done.shows.sound,
+          (lowered d).shows.sound,
+          (lowered g).shows.sound,
           record {
-            node = node_after g.done (node_after d.done q.node);
-            room = after T R b g.done 4096 (after T R a d.done (node_sum (cost T) b + 4096) both_room);
-            top = omega (arith, s (weight_of T), q.tree.top, topped d.done, d.done.left.long, topped g.done, g.done.left.long);
+            node = node_after (lowered g) (node_after (lowered d) q.node);
+            room = after T R b (lowered g) 4096 (after T R a (lowered d) (node_sum (cost T) b + 4096) both_room);
+            top = omega (arith, s (weight_of T), q.tree.top, topped (lowered d), (lowered d).left.long, topped (lowered g), (lowered g).left.long);
           },
         )
 
       module _ (d : LowersValue T a l l1 x) where
         -- above the first one's parts
         pub above_room : TreeRoom T b l1
-        above_room = record { room = after T R a d.done (node_sum (cost T) b + 4096) both_room; top = omega (arith, s (weight_of T), q.tree.top, top_after T R a d.done, d.done.left.long) }
+        above_room = record { room = after T R a (lowered d) (node_sum (cost T) b + 4096) both_room; top = omega (arith, s (weight_of T), q.tree.top, top_after T R a (lowered d), (lowered d).left.long) }
 
         pub insertable : {l2 : Lowering} {y : Val} → LowersValue T b l1 l2 y → Insertable l2.stack.now l.top l1.top l2.top y
-        insertable g = insert_ready d.done g.done (tree_top a two_room)
+        insertable g = insert_ready (lowered d) (lowered g) (tree_top a two_room)
 
   -- ---------------------------------------------------------------- a select
 
@@ -110,44 +110,44 @@ module _ (t : Tables) where
       pub other_room : TreeRoom T no l1
       unfolding node_sum
       other_room =
-          record { room = after T R yes d.done (node_sum (cost T) no + 4096) (room_less (omega arith) q.tree.room); top = omega (arith, q.tree.top, top_after T R yes d.done, d.done.left.long) }
+          record { room = after T R yes (lowered d) (node_sum (cost T) no + 4096) (room_less (omega arith) q.tree.room); top = omega (arith, q.tree.top, top_after T R yes (lowered d), (lowered d).left.long) }
 
       module _ {l2 : Lowering} {y : Val} (g : LowersValue T no l1 l2 y) where
         arms_room : Room (node_sum (cost T) cond + 4098) l2.out
         unfolding node_sum
         arms_room =
-            after T R no g.done (node_sum (cost T) cond + 4098) (after T R yes d.done (node_sum (cost T) no + (node_sum (cost T) cond + 4098)) (room_less (omega arith) q.tree.room))
+            after T R no (lowered g) (node_sum (cost T) cond + 4098) (after T R yes (lowered d) (node_sum (cost T) no + (node_sum (cost T) cond + 4098)) (room_less (omega arith) q.tree.room))
 
         pub condition_room : TreeRoom T cond l2
         unfolding node_sum
         condition_room =
             record {
               room = room_less (omega arith) arms_room;
-              top = omega (arith, q.tree.top, top_after T R yes d.done, d.done.left.long, top_after T R no g.done, g.done.left.long);
+              top = omega (arith, q.tree.top, top_after T R yes (lowered d), (lowered d).left.long, top_after T R no (lowered g), (lowered g).left.long);
             }
 
         pub bit_room : {l3 : Lowering} {z : Val} → LowersHead T cond l2 l3 z → Sound_value z × Room 2 l3.out
-        bit_room k = (k.done.shows.sound, after T R cond k.done 2 (room_less (omega arith) arms_room))
+        bit_room k = ((lowered k).shows.sound, after T R cond (lowered k) 2 (room_less (omega arith) arms_room))
 
         pub select_ready : {l4 : Lowering} {b : Bit} → Done IsBit (λ _. []) l2 (expression_as_bit T h cond nowhere (counters_in l2)) l4 b
             → (StepRoom T n h.ty (at_top l4 l.top)) × Sound_value x × Sound_value y × (Stands l4.stack.now l.top l1.top) × (Stands l4.stack.now l1.top l2.top) × (l.top ≤ l1.top) × (l1.top ≤ l2.top) × (l2.top ≤ length l4.stack.now)
         unfolding node_sum
         select_ready {l4} k =
             let i = tree_top yes select_room in
-            let j = left_fits g.done.left (left_fits d.done.left i) in
+            let j = left_fits (lowered g).left (left_fits (lowered d).left i) in
             let u = lowers_bit T R nowhere (counters_in l2) h cond k.v (counters_in l4) k.out k.is in
             let z = sum_le (λ ty. size_of T ty + 2) (cost T) (λ ty. omega arith) cond in (
               record {
-                node = node_after k (node_after g.done (node_after d.done q.node));
+                node = node_after k (node_after (lowered g) (node_after (lowered d) q.node));
                 room = room_after 4096 (omega (arith, z, u.cost.storages)) (omega (arith, u.cost.instructions)) arms_room k.left.appends;
-                top = omega (arith, q.tree.top, d.done.left.long, g.done.left.long, k.left.long);
+                top = omega (arith, q.tree.top, (lowered d).left.long, (lowered g).left.long, k.left.long);
               },
-              d.done.shows.sound,
-              g.done.shows.sound,
-              first_stands d.done g.done k i,
-              second_stands d.done g.done k i,
-              omega (arith, d.done.left.topped),
-              omega (arith, g.done.left.topped),
+              (lowered d).shows.sound,
+              (lowered g).shows.sound,
+              first_stands (lowered d) (lowered g) k i,
+              second_stands (lowered d) (lowered g) k i,
+              omega (arith, (lowered d).left.topped),
+              omega (arith, (lowered g).left.topped),
               omega (arith, j, k.left.long),
             )
 
@@ -155,7 +155,7 @@ module _ (t : Tables) where
 
   module _ (d a i n : ℕ) (h : n ≡ 0 → ⊥) where
     abbrev lists : List ℕ
-    lists = t.lists.now
+    lists = t.lines.lists.now
 
     kids_sum : (f : ℕ → ℕ) → node_sums f (kids T lists d (a + i) n) ≡ node_sum f (expr_at d T (get_or lists (a + i) 0)) + node_sums f (kids T lists d (a + (i + 1)) (n - 1))
     unfolding node_sum
@@ -179,7 +179,7 @@ module _ (t : Tables) where
             top = omega (arith, r.top, kids_sum (weight_of T), top_after T R e v, v.left.long, g);
           }
 
-  pub list_room : {h : At} {m : ℕ} (d a n : ℕ) {l : Lowering} → NodeRoom T m (aggregate h (kids T t.lists.now d a n)) l → ListRoom T (kids T t.lists.now d (a + 0) (n - 0)) l
+  pub list_room : {h : At} {m : ℕ} (d a n : ℕ) {l : Lowering} → NodeRoom T m (aggregate h (kids T t.lines.lists.now d a n)) l → ListRoom T (kids T t.lines.lists.now d (a + 0) (n - 0)) l
   unfolding node_sum
   list_room {h} d a n q =
       let e : a + 0 ≡ a = omega arith in

@@ -1,5 +1,6 @@
 -- A node's own step behind its operands.
 use Rattle.std.specs.Prelude.{◌≡◌, refl, Bool, true, false, List, ◌∷◌, [], ℕ, ◌≤◌, length, eqb, Option, Result, Ok, Err}
+use Rattle.std.specs.Result.{IsErrAnd}
 use Rattle.std.proofs.Common.{ap, subst, ◌∙◌, append-nil}
 use Rattle.answers.specs.declared.Refusal.{Refusal}
 use Rattle.answers.specs.declared.Refused.{Refused}
@@ -24,7 +25,7 @@ use Rattle.lir.specs.declared.BitOperand.{BitOperand as Bit}
 use Rattle.values.specs.declared.Lowering.{Lowering}
 use Rattle.values.specs.declared.Value.{Value as Val}
 use Rattle.values.specs.Heads.{Head, root, parts_of, head_of, flat_of, flat_bytes, flat_bit, flat_type, operands_of}
-use Rattle.values.specs.Left.{counters_in, at_top, with_stack, Left, Case, Shows, IsValue, IsBit, Done, MeetsValue, MeetsBit, DoneValue, shown_done}
+use Rattle.values.specs.Left.{counters_in, at_top, with_stack, Left, Case, Shows, IsValue, IsBit, Done, MeetsValue, MeetsBit, DoneValue, shown_done, shown_refused}
 use Rattle.values.specs.Laws.{left_none, left_then, left_drop}
 use Rattle.values.specs.Stack.{Extracts, heads, selects}
 use Rattle.parts.specs.Meets.{root_type, extract_meets, MeetsPart, select_meets as all_meet}
@@ -32,24 +33,22 @@ use Rattle.parts.specs.Insert.{Inserts}
 use Rattle.parts.specs.InsertMeets.{insert_meets}
 use Rattle.reads.specs.declared.At.{At as Place}
 use Rattle.reads.specs.Reading.{at_of}
+use Rattle.reads.proofs.Laws.{passed}
 use Rattle.lowering.specs.Nodes.{MeetsHead}
 use Rattle.conversions.specs.Converting.{reinterpreted_by, reinterpreted_of}
 
 abbrev pub DoneHead : Lowering → Outcome Value → Lowering → Val → Type 0
 DoneHead = Done IsValue (λ _. [])
 
--- an expression that is lowered: its value, of which hs is left
-pub record Lowers (T : Tables) (e : Expr) (hs : Value → List Head) (l l1 : Lowering) (x : Val) : Type 0 where
-  pub done : Done IsValue hs l (lower_expression T e nowhere (counters_in l)) l1 x
-
+-- an expression that is lowered, as its function ensures it: its value, of which no part is left, or all are
 abbrev pub LowersHead : Tables → Expr → Lowering → Lowering → Val → Type 0
-LowersHead T e = Lowers T e (λ _. [])
+LowersHead T e l l1 x = Shows IsValue (λ _. []) l (lower_expression T e nowhere (counters_in l)) l1 (Ok x)
 
 abbrev pub LowersValue : Tables → Expr → Lowering → Lowering → Val → Type 0
-LowersValue T e = Lowers T e parts_of
+LowersValue T e l l1 x = Shows IsValue parts_of l (lower_expression T e nowhere (counters_in l)) l1 (Ok x)
 
-pub lowers : {T : Tables} {e : Expr} {hs : Value → List Head} {l l1 : Lowering} {x : Val} → Shows IsValue hs l (lower_expression T e nowhere (counters_in l)) l1 (Ok x) → Lowers T e hs l l1 x
-lowers m = record { done = shown_done m refl }
+pub lowered : {hs : Value → List Head} {l : Lowering} {o : Outcome Value} {l1 : Lowering} {x : Val} → Shows IsValue hs l o l1 (Ok x) → Done IsValue hs l o l1 x
+lowered m = shown_done m refl
 
 -- a value's parts are let go
 pub head_meets : {l : Lowering} {o : Outcome Value} {l1 : Lowering} {x : Val} → l.top ≤ length l.stack.now → MeetsValue l o l1 (Ok x) → MeetsHead l o (at_top l1 l.top) (Ok x)
@@ -65,11 +64,12 @@ module _ {A B : Type 0} (m : Lower A) (f : A → Lower B) {h : At} {c : monad.Co
   unfolding ◌>>=◌
   first_stops e = rw e
 
--- behind an expression that is lowered
-pub later_stops : {A : Type 0} {T : Tables} {e : Expr} {hs : Value → List Head} {l l1 : Lowering} {x : Val} (d : Lowers T e hs l l1 x) (f : Value → Lower A) {n k : ℕ}
-    → f d.done.v nowhere (counters_in l1) ≡ refused n k → (lower_expression T e >>= f) nowhere (counters_in l) ≡ refused n k
+-- an expression that is lowered, and then one that is refused
+pub second_stops : {A B : Type 0} {P : A → B → Type 0} {gs : A → List Head} {hs ks : Value → List Head} {l l1 l2 l3 : Lowering} {x : Val} {d : Refused Refusal} {r : Result B (Refused Refusal)}
+    (m n : Lower Value) (f : Value → Value → Lower A) (h : At) → Shows IsValue hs l (m h (counters_in l)) l1 (Ok x) → Shows IsValue ks l1 (n h (counters_in l1)) l2 (Err d)
+    → IsErrAnd r (λ y. y ≡ d) → Shows P gs l ((m >>= λ v. (n >>= f v)) h (counters_in l)) l3 r
 unfolding ◌>>=◌
-later_stops d f g = rw (d.done.is, g)
+second_stops {d = d} {r} m n f h p q e = passed r d e (rw ((lowered p).is, shown_refused q refl))
 
 -- ---------------------------------------------------------------- steps that look at heads alone
 
@@ -142,38 +142,38 @@ heads_then : {l : Lowering} {o : Outcome Value} {l1 : Lowering} {x : Val} {p : O
 heads_then {x = x} f g k d e m =
     head_then (λ v. prepend e.out (f v e.v)) (λ v. ap (λ (z : Outcome Value). prepend e.out z) (g v e.v)) d (head_then (f (flat_of (head_of x))) (k (flat_of (head_of x))) e m)
 
-module _ {T : Tables} {a : Expr} {l l1 : Lowering} {x : Val} (p : LowersHead T a l l1 x) (h : At) {l2 : Lowering} where
+module _ (T : Tables) (a : Expr) {l l1 : Lowering} {x : Val} (p : LowersHead T a l l1 x) (h : At) {l2 : Lowering} where
   pub unary_meets : (op : hir.IntegerUnaryOp) {r : Result Val (Refused Refusal)} → MeetsValue l1 (lower_integer_unary T op (flat_of (head_of x)) h.ty h (counters_in l1)) l2 r
       → MeetsValue l (lower_expression T (integer_unary h op a) nowhere (counters_in l)) l2 r
   unfolding lower_expression ◌>>=◌
-  unary_meets op m = rw p.done.is (head_then (λ v. lower_integer_unary T op v h.ty h (counters_in l1)) (unary_flat T h (counters_in l1) op h.ty) p.done m)
+  unary_meets op m = rw (lowered p).is (head_then (λ v. lower_integer_unary T op v h.ty h (counters_in l1)) (unary_flat T h (counters_in l1) op h.ty) (lowered p) m)
 
   pub conversion_meets : (op : hir.ConversionOp) → (conversion_form op ≡ reinterpreting → ⊥) → {r : Result Val (Refused Refusal)}
       → MeetsValue l1 (lower_conversion T op (flat_of (head_of x)) h.ty h (counters_in l1)) l2 r → MeetsValue l (lower_expression T (convert h op a) nowhere (counters_in l)) l2 r
   unfolding lower_expression ◌>>=◌
-  conversion_meets op n m = rw p.done.is (head_then (λ v. lower_conversion T op v h.ty h (counters_in l1)) (conversion_flat T h (counters_in l1) op h.ty (conversion_form op) refl n) p.done m)
+  conversion_meets op n m = rw (lowered p).is (head_then (λ v. lower_conversion T op v h.ty h (counters_in l1)) (conversion_flat T h (counters_in l1) op h.ty (conversion_form op) refl n) (lowered p) m)
 
   pub bit_meets : {r : Result Bit (Refused Refusal)} → MeetsBit l1 (value_as_bit T (flat_of (head_of x)) h (counters_in l1)) l2 r → MeetsBit l (expression_as_bit T h a nowhere (counters_in l)) l2 r
   unfolding expression_as_bit as_bit ◌>>=◌
-  bit_meets m = rw p.done.is (head_then (λ v. value_as_bit T v h (counters_in l1)) (bit_flat T h (counters_in l1)) p.done m)
+  bit_meets m = rw (lowered p).is (head_then (λ v. value_as_bit T v h (counters_in l1)) (bit_flat T h (counters_in l1)) (lowered p) m)
 
-  module _ {b : Expr} {y : Val} (q : LowersHead T b l1 l2 y) {l3 : Lowering} {r : Result Val (Refused Refusal)} where
+  module _ (b : Expr) {y : Val} (q : LowersHead T b l1 l2 y) {l3 : Lowering} {r : Result Val (Refused Refusal)} where
     pub binary_meets : (op : hir.IntegerBinaryOp) → MeetsValue l2 (lower_integer_binary T op (flat_of (head_of x)) (flat_of (head_of y)) h.ty h (counters_in l2)) l3 r
         → MeetsValue l (lower_expression T (integer_binary h op a b) nowhere (counters_in l)) l3 r
     unfolding lower_expression ◌>>=◌
     binary_meets op m =
-        rw (p.done.is, q.done.is)
-        (heads_then (λ v w. lower_integer_binary T op v w h.ty h (counters_in l2)) (binary_left T h (counters_in l2) op h.ty) (binary_right T h (counters_in l2) op h.ty) p.done q.done m)
+        rw ((lowered p).is, (lowered q).is)
+        (heads_then (λ v w. lower_integer_binary T op v w h.ty h (counters_in l2)) (binary_left T h (counters_in l2) op h.ty) (binary_right T h (counters_in l2) op h.ty) (lowered p) (lowered q) m)
 
     pub compare_meets : (op : hir.CompareOp) → MeetsValue l2 (lower_compare T op (flat_of (head_of x)) (flat_of (head_of y)) h (counters_in l2)) l3 r
         → MeetsValue l (lower_expression T (compare h op a b) nowhere (counters_in l)) l3 r
     unfolding lower_expression ◌>>=◌
-    compare_meets op m = rw (p.done.is, q.done.is) (heads_then (λ v w. lower_compare T op v w h (counters_in l2)) (compare_left T h (counters_in l2) op) (compare_right T h (counters_in l2) op) p.done q.done m)
+    compare_meets op m = rw ((lowered p).is, (lowered q).is) (heads_then (λ v w. lower_compare T op v w h (counters_in l2)) (compare_left T h (counters_in l2) op) (compare_right T h (counters_in l2) op) (lowered p) (lowered q) m)
 
     pub offset_meets : MeetsValue l2 (lower_pointer_offset T (flat_of (head_of x)) (flat_of (head_of y)) h (counters_in l2)) l3 r
         → MeetsValue l (lower_expression T (pointer_offset h a b) nowhere (counters_in l)) l3 r
     unfolding lower_expression ◌>>=◌
-    offset_meets m = rw (p.done.is, q.done.is) (heads_then (λ v w. lower_pointer_offset T v w h (counters_in l2)) (offset_left T h (counters_in l2)) (offset_right T h (counters_in l2)) p.done q.done m)
+    offset_meets m = rw ((lowered p).is, (lowered q).is) (heads_then (λ v w. lower_pointer_offset T v w h (counters_in l2)) (offset_left T h (counters_in l2)) (offset_right T h (counters_in l2)) (lowered p) (lowered q) m)
 
 -- ---------------------------------------------------------------- behind an operand and its parts
 
@@ -196,36 +196,36 @@ reinterpret_case {x = x} h d true =
       );
     }
 
-pub reinterpret_meets : (t : code.Tables) {a : Expr} {l l1 : Lowering} {x : Val} → LowersValue (ticket_of t) a l l1 x → (h : Place) (op : hir.ConversionOp) → conversion_form op ≡ reinterpreting
-    → {r : Result Val (Refused Refusal)} → r ≡ reinterpreted_of t.rows.now t.counts x h → MeetsValue l (lower_expression (ticket_of t) (convert (at_of h) op a) nowhere (counters_in l)) l1 r
+pub reinterpret_meets : (t : code.Tables) (a : Expr) {l l1 : Lowering} {x : Val} → LowersValue (ticket_of t.lines) a l l1 x → (h : Place) (op : hir.ConversionOp) → conversion_form op ≡ reinterpreting
+    → {r : Result Val (Refused Refusal)} → r ≡ reinterpreted_of t.lines.rows.now t.lines.counts x h → MeetsValue l (lower_expression (ticket_of t.lines) (convert (at_of h) op a) nowhere (counters_in l)) l1 r
 unfolding lower_expression lower_conversion reinterpreted ◌>>=◌ ◌>>◌ reinterpreted_of
-reinterpret_meets t {x = x} p h op e q =
-    let rows = t.rows.now in
-    let lists = t.lists.now in
-    rw (p.done.is, e, q, ← (root_type p.done.v), ← p.done.shows.head, size_here rows lists t.counts x.ty, size_here rows lists t.counts h.ty)
-    (reinterpret_case h p.done (eqb (size_at rows t.counts x.ty) (size_at rows t.counts h.ty)))
+reinterpret_meets t a {x = x} p h op e q =
+    let rows = t.lines.rows.now in
+    let lists = t.lines.lists.now in
+    rw ((lowered p).is, e, q, ← (root_type (lowered p).v), ← (lowered p).shows.head, size_here rows lists t.lines.counts x.ty, size_here rows lists t.lines.counts h.ty)
+    (reinterpret_case h (lowered p) (eqb (size_at rows t.lines.counts x.ty) (size_at rows t.lines.counts h.ty)))
 
-module _ {T : Tables} {a : Expr} {l l1 : Lowering} {x : Val} (p : LowersValue T a l l1 x) where
+module _ (T : Tables) (a : Expr) {l l1 : Lowering} {x : Val} (p : LowersValue T a l l1 x) where
   module _ (h : At) (t : l.top ≤ length l.stack.now) where
     pub extract_part : (i : ℕ) {ws : List ℕ} {r : Option (Val × ℕ)} → length ws ≡ length l1.stack.now → Extracts l1.stack.now l.top l1.top x i ws r
         → MeetsPart h.line l (lower_expression T (extract_element h a i) nowhere (counters_in l)) (with_stack l1 ws) r
     unfolding lower_expression ◌>>=◌
-    extract_part i {ws} n m = rw p.done.is (extract_meets p.done t i h ws n T m)
+    extract_part i {ws} n m = rw (lowered p).is (extract_meets (lowered p) t i h ws n T m)
 
-    module _ {b : Expr} {l2 : Lowering} {y : Val} (q : LowersValue T b l1 l2 y) where
+    module _ (b : Expr) {l2 : Lowering} {y : Val} (q : LowersValue T b l1 l2 y) where
       pub insert_part : (i : ℕ) {ws : List ℕ} {r : Option (Val × ℕ)} → length ws ≡ length l2.stack.now → Inserts l2.stack.now l.top l1.top l2.top x i y h.ty ws r
           → MeetsPart h.line l (lower_expression T (insert_element h a i b) nowhere (counters_in l)) (with_stack l2 ws) r
       unfolding lower_expression ◌>>=◌
-      insert_part i {ws} n m = rw (p.done.is, q.done.is) (insert_meets p.done q.done t i h.ty h ws n T m)
+      insert_part i {ws} n m = rw ((lowered p).is, (lowered q).is) (insert_meets (lowered p) (lowered q) t i h.ty h ws n T m)
 
       pub select_meets : (c : Expr) {l3 : Lowering} {z : Bit} (k : Done IsBit (λ _. []) l2 (expression_as_bit T h c nowhere (counters_in l2)) l3 z) {l4 : Lowering} {r : Result Val (Refused Refusal)}
           → MeetsValue (at_top l3 l.top) (selects T (bit_operand_of z) x.ty (operands_of (head_of x ∷ heads l3.stack.now l.top l1.top)) y.ty (operands_of (head_of y ∷ heads l3.stack.now l1.top l2.top)) h.ty h (counters_in l3)) l4 r
           → MeetsValue l (lower_expression T (select h a b c) nowhere (counters_in l)) l4 r
       unfolding lower_expression expression_as_bit ◌>>=◌
-      select_meets c k m = rw (p.done.is, q.done.is, k.is, ← k.shows) (all_meet p.done q.done k t T h.ty h m)
+      select_meets c k m = rw ((lowered p).is, (lowered q).is, k.is, ← k.shows) (all_meet (lowered p) (lowered q) k t T h.ty h m)
 
 -- a select whose condition is refused
-pub condition_stops : {T : Tables} {a b : Expr} {l l1 l2 : Lowering} {x y : Val} (p : LowersValue T a l l1 x) (q : LowersValue T b l1 l2 y) (h : At) (c : Expr) {n k : ℕ}
+pub condition_stops : (T : Tables) (a b : Expr) {l l1 l2 : Lowering} {x y : Val} (p : LowersValue T a l l1 x) (q : LowersValue T b l1 l2 y) (h : At) (c : Expr) {n k : ℕ}
     → expression_as_bit T h c nowhere (counters_in l2) ≡ refused n k → lower_expression T (select h a b c) nowhere (counters_in l) ≡ refused n k
 unfolding lower_expression expression_as_bit ◌>>=◌
-condition_stops p q h c g = rw (p.done.is, q.done.is, g)
+condition_stops T a b p q h c g = rw ((lowered p).is, (lowered q).is, g)

@@ -22,14 +22,15 @@ use values::{Lowering, Repr, Value};
 
 /// The node of line k, its tree as deep as `depth`.
 #[cycle(lower)]
+#[tactic(auto, using(tables::proofs::Laws::tree_none, values::specs::Left::shown_refused, reads::proofs::Laws::passed, crate::proofs::NodeLaws::found, crate::proofs::NodeLaws::found_room, crate::proofs::NodeLaws::meets_restored))]
 pub fn lower_expression(
     tables: &Tables<'_>,
     l: &mut Lowering<'_>,
     k: u64,
     depth: u64,
 ) -> Result<Value, Refused<Refusal>>
-    requires { TreeRoom (ticket_of tables.now) (expr_at depth (ticket_of tables.now) k) l.old }
-    ensures { MeetsValue l.old (lower_expression (ticket_of tables.now) (expr_at depth (ticket_of tables.now) k) nowhere (counters_in l.old)) l.new result }
+    requires { TreeRoom (ticket_of tables.now.lines) (expr_at depth (ticket_of tables.now.lines) k) l.old }
+    ensures { MeetsValue l.old (lower_expression (ticket_of tables.now.lines) (expr_at depth (ticket_of tables.now.lines) k) nowhere (counters_in l.old)) l.new result }
 {
     if depth == 0 {
         return Ok(steps::lower_null(At {
@@ -39,19 +40,20 @@ pub fn lower_expression(
         }));
     }
     let h = At {
-        line: tables.node_line(k),
+        line: tables.lines.node_line(k),
         node: NodeId(k),
-        ty: tables.node_type(k),
+        ty: tables.lines.node_type(k),
     };
     let outer = l.out.node;
     l.out.node = h.node;
-    let value = lower_node(tables, l, tables.node_at(k), depth - 1, h)?;
+    let value = lower_node(tables, l, tables.lines.node_at(k), depth - 1, h)?;
     l.out.node = outer;
     Ok(value)
 }
 
 // A node by its kind. Floats have no bytes, and nothing is done with them.
 #[cycle(lower)]
+#[tactic(auto, using(steps::proofs::Asks::told_stops, steps::proofs::Asks::shows_stops, crate::proofs::NodeLaws::float_refused, crate::proofs::NodeLaws::operation_refused, crate::proofs::RoomLaws::read_room, crate::proofs::RoomLaws::one_room, crate::proofs::RoomLaws::two_room), unfolding(spec::specs::Lower::lower_expression, spec::specs::Readable::node_sum))]
 fn lower_node(
     tables: &Tables<'_>,
     l: &mut Lowering<'_>,
@@ -59,15 +61,15 @@ fn lower_node(
     depth: u64,
     h: At,
 ) -> Result<Value, Refused<Refusal>>
-    requires { NodeRoom (ticket_of tables.now) h.node.0 (tree_of (ticket_of tables.now) tables.now.lists.now depth (at_of h) kind) l.old }
-    ensures { MeetsValue l.old (lower_expression (ticket_of tables.now) (tree_of (ticket_of tables.now) tables.now.lists.now depth (at_of h) kind) nowhere (counters_in l.old)) l.new result }
+    requires { NodeRoom (ticket_of tables.now.lines) h.node.0 (tree_of (ticket_of tables.now.lines) tables.now.lines.lists.now depth (at_of h) kind) l.old }
+    ensures { MeetsValue l.old (lower_expression (ticket_of tables.now.lines) (tree_of (ticket_of tables.now.lines) tables.now.lines.lists.now depth (at_of h) kind) nowhere (counters_in l.old)) l.new result }
 {
     match kind {
         NodeKind::Bool(v) => Ok(steps::lower_bool(v, h)),
-        NodeKind::Int(v) => steps::lower_integer(tables, v, h.ty, h),
+        NodeKind::Int(v) => steps::lower_integer(&tables.lines, v, h.ty, h),
         NodeKind::F32(_) | NodeKind::F64(_) => Err(h.refuse(Refusal::UnsupportedType)),
         NodeKind::Null => Ok(steps::lower_null(h)),
-        NodeKind::StaticAddress(k, o) => steps::lower_static_address(tables, l, k, o, h),
+        NodeKind::StaticAddress(k, o) => steps::lower_static_address(&tables.lines, l, k, o, h),
         NodeKind::Function(f) => Ok(steps::lower_function_address(l, f)),
         NodeKind::Read(p) => steps::lower_read(tables, l, depth, p, h.ty, h),
         NodeKind::Unary(op, e) => {
@@ -85,7 +87,7 @@ fn lower_node(
         NodeKind::Compare(op, a, b) => {
             let left = lower_head(tables, l, a, depth)?;
             let right = lower_head(tables, l, b, depth)?;
-            steps::lower_compare(tables, l, op, left, right, h)
+            steps::lower_compare(&tables.lines, l, op, left, right, h)
         }
         NodeKind::Convert(op, e) => lower_conversion(tables, l, op, e, depth, h),
         NodeKind::Select(t, f, c) => lower_select(tables, l, t, f, c, depth, h),
@@ -103,14 +105,15 @@ fn lower_node(
 
 // A node for a step that looks at its value's head alone; the parts are let go.
 #[cycle(lower)]
+#[tactic(auto, using(crate::proofs::StepLaws::head_meets, crate::proofs::RoomLaws::tree_top))]
 fn lower_head(
     tables: &Tables<'_>,
     l: &mut Lowering<'_>,
     k: u64,
     depth: u64,
 ) -> Result<Value, Refused<Refusal>>
-    requires { TreeRoom (ticket_of tables.now) (expr_at depth (ticket_of tables.now) k) l.old }
-    ensures { MeetsHead l.old (lower_expression (ticket_of tables.now) (expr_at depth (ticket_of tables.now) k) nowhere (counters_in l.old)) l.new result }
+    requires { TreeRoom (ticket_of tables.now.lines) (expr_at depth (ticket_of tables.now.lines) k) l.old }
+    ensures { MeetsHead l.old (lower_expression (ticket_of tables.now.lines) (expr_at depth (ticket_of tables.now.lines) k) nowhere (counters_in l.old)) l.new result }
 {
     let top = l.top;
     let value = lower_expression(tables, l, k, depth)?;
@@ -120,6 +123,7 @@ fn lower_head(
 
 // A value under another type keeps its parts.
 #[cycle(lower)]
+#[tactic(auto, using(steps::proofs::Asks::shows_stops, crate::proofs::RoomLaws::one_room), unfolding(spec::specs::Readable::node_sum, spec::specs::Lower::lower_expression))]
 fn lower_conversion(
     tables: &Tables<'_>,
     l: &mut Lowering<'_>,
@@ -128,12 +132,12 @@ fn lower_conversion(
     depth: u64,
     h: At,
 ) -> Result<Value, Refused<Refusal>>
-    requires { NodeRoom (ticket_of tables.now) h.node.0 (convert (at_of h) (ticket.conversion_op op) (expr_at depth (ticket_of tables.now) e)) l.old }
-    ensures { MeetsValue l.old (lower_expression (ticket_of tables.now) (convert (at_of h) (ticket.conversion_op op) (expr_at depth (ticket_of tables.now) e)) nowhere (counters_in l.old)) l.new result }
+    requires { NodeRoom (ticket_of tables.now.lines) h.node.0 (convert (at_of h) (ticket.conversion_op op) (expr_at depth (ticket_of tables.now.lines) e)) l.old }
+    ensures { MeetsValue l.old (lower_expression (ticket_of tables.now.lines) (convert (at_of h) (ticket.conversion_op op) (expr_at depth (ticket_of tables.now.lines) e)) nowhere (counters_in l.old)) l.new result }
 {
     if conversions::is_reinterpret(op) {
         let whole = lower_expression(tables, l, e, depth)?;
-        return conversions::reinterpreted(tables, whole, h);
+        return conversions::reinterpreted(&tables.lines, whole, h);
     }
     let operand = lower_head(tables, l, e, depth)?;
     conversions::lower_conversion(tables, l, op, operand, h)
@@ -141,6 +145,7 @@ fn lower_conversion(
 
 // Both arms are lowered, and then the condition.
 #[cycle(lower)]
+#[tactic(auto, using(steps::proofs::Asks::shows_stops), unfolding(spec::specs::Lower::lower_expression))]
 fn lower_select(
     tables: &Tables<'_>,
     l: &mut Lowering<'_>,
@@ -150,8 +155,8 @@ fn lower_select(
     depth: u64,
     h: At,
 ) -> Result<Value, Refused<Refusal>>
-    requires { NodeRoom (ticket_of tables.now) h.node.0 (select (at_of h) (expr_at depth (ticket_of tables.now) t) (expr_at depth (ticket_of tables.now) f) (expr_at depth (ticket_of tables.now) c)) l.old }
-    ensures { MeetsValue l.old (lower_expression (ticket_of tables.now) (select (at_of h) (expr_at depth (ticket_of tables.now) t) (expr_at depth (ticket_of tables.now) f) (expr_at depth (ticket_of tables.now) c)) nowhere (counters_in l.old)) l.new result }
+    requires { NodeRoom (ticket_of tables.now.lines) h.node.0 (select (at_of h) (expr_at depth (ticket_of tables.now.lines) t) (expr_at depth (ticket_of tables.now.lines) f) (expr_at depth (ticket_of tables.now.lines) c)) l.old }
+    ensures { MeetsValue l.old (lower_expression (ticket_of tables.now.lines) (select (at_of h) (expr_at depth (ticket_of tables.now.lines) t) (expr_at depth (ticket_of tables.now.lines) f) (expr_at depth (ticket_of tables.now.lines) c)) nowhere (counters_in l.old)) l.new result }
 {
     let top = l.top;
     let yes = lower_expression(tables, l, t, depth)?;
@@ -159,7 +164,7 @@ fn lower_select(
     let no = lower_expression(tables, l, f, depth)?;
     let end = l.top;
     let condition = lower_head(tables, l, c, depth)?;
-    let bit = steps::value_as_bit(tables, l, condition, h)?;
+    let bit = steps::value_as_bit(&tables.lines, l, condition, h)?;
     l.top = top;
     selects::lower_select(tables, l, bit, yes, no, middle, end, h)
 }
@@ -174,14 +179,14 @@ fn lower_aggregate(
     depth: u64,
     h: At,
 ) -> Result<Value, Refused<Refusal>>
-    requires { NodeRoom (ticket_of tables.now) h.node.0 (aggregate (at_of h) (kids (ticket_of tables.now) tables.now.lists.now depth start n)) l.old }
-    ensures { MeetsValue l.old (lower_expression (ticket_of tables.now) (aggregate (at_of h) (kids (ticket_of tables.now) tables.now.lists.now depth start n)) nowhere (counters_in l.old)) l.new result }
+    requires { NodeRoom (ticket_of tables.now.lines) h.node.0 (aggregate (at_of h) (kids (ticket_of tables.now.lines) tables.now.lines.lists.now depth start n)) l.old }
+    ensures { MeetsValue l.old (lower_expression (ticket_of tables.now.lines) (aggregate (at_of h) (kids (ticket_of tables.now.lines) tables.now.lines.lists.now depth start n)) nowhere (counters_in l.old)) l.new result }
 {
     let from = l.top;
     for i in 0..n {
         let top = l.top;
         l.top += 8;
-        let part = lower_expression(tables, l, tables.list_at(start, i), depth)?;
+        let part = lower_expression(tables, l, tables.lines.list_at(start, i), depth)?;
         values::store8(l.stack, top, values::value_words(part));
     }
     let records = (l.top - from) / 8;
@@ -193,6 +198,7 @@ fn lower_aggregate(
 
 // Part i of a node's value.
 #[cycle(lower)]
+#[tactic(auto, using(steps::proofs::Asks::shows_stops, crate::proofs::RoomLaws::one_room), unfolding(spec::specs::Readable::node_sum, spec::specs::Lower::lower_expression))]
 fn lower_extract(
     tables: &Tables<'_>,
     l: &mut Lowering<'_>,
@@ -201,8 +207,8 @@ fn lower_extract(
     depth: u64,
     h: At,
 ) -> Result<Value, Refused<Refusal>>
-    requires { NodeRoom (ticket_of tables.now) h.node.0 (extract_element (at_of h) (expr_at depth (ticket_of tables.now) e) i) l.old }
-    ensures { MeetsValue l.old (lower_expression (ticket_of tables.now) (extract_element (at_of h) (expr_at depth (ticket_of tables.now) e) i) nowhere (counters_in l.old)) l.new result }
+    requires { NodeRoom (ticket_of tables.now.lines) h.node.0 (extract_element (at_of h) (expr_at depth (ticket_of tables.now.lines) e) i) l.old }
+    ensures { MeetsValue l.old (lower_expression (ticket_of tables.now.lines) (extract_element (at_of h) (expr_at depth (ticket_of tables.now.lines) e) i) nowhere (counters_in l.old)) l.new result }
 {
     let top = l.top;
     let whole = lower_expression(tables, l, e, depth)?;
@@ -215,6 +221,7 @@ fn lower_extract(
 
 // A node's value with another's for its part i.
 #[cycle(lower)]
+#[tactic(auto, using(steps::proofs::Asks::shows_stops, crate::proofs::RoomLaws::two_room), unfolding(spec::specs::Readable::node_sum, spec::specs::Lower::lower_expression))]
 fn lower_insert(
     tables: &Tables<'_>,
     l: &mut Lowering<'_>,
@@ -224,8 +231,8 @@ fn lower_insert(
     depth: u64,
     h: At,
 ) -> Result<Value, Refused<Refusal>>
-    requires { NodeRoom (ticket_of tables.now) h.node.0 (insert_element (at_of h) (expr_at depth (ticket_of tables.now) e) i (expr_at depth (ticket_of tables.now) w)) l.old }
-    ensures { MeetsValue l.old (lower_expression (ticket_of tables.now) (insert_element (at_of h) (expr_at depth (ticket_of tables.now) e) i (expr_at depth (ticket_of tables.now) w)) nowhere (counters_in l.old)) l.new result }
+    requires { NodeRoom (ticket_of tables.now.lines) h.node.0 (insert_element (at_of h) (expr_at depth (ticket_of tables.now.lines) e) i (expr_at depth (ticket_of tables.now.lines) w)) l.old }
+    ensures { MeetsValue l.old (lower_expression (ticket_of tables.now.lines) (insert_element (at_of h) (expr_at depth (ticket_of tables.now.lines) e) i (expr_at depth (ticket_of tables.now.lines) w)) nowhere (counters_in l.old)) l.new result }
 {
     let top = l.top;
     let whole = lower_expression(tables, l, e, depth)?;

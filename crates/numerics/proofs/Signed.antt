@@ -4,7 +4,7 @@ use Rattle.std.proofs.lemmas.Bool.{false≢true, cases_lt, cases_eq}
 use Rattle.std.proofs.lemmas.Bool.Decides.{nat_tests}
 use borrow.Author.Tests.{ltb-true, ltb-false, lt-leb}
 use lib.Signed.{mag_shr}
-use Rattle.std.proofs.lemmas.Int.{to_z-of_z, of_z-to_z, to_z_pos}
+use Rattle.std.proofs.lemmas.Int.{to_z-of_z, to_z_pos}
 use Rattle.std.proofs.lemmas.Nat.{shl-shr, mul-le, shl_below, shr_below, mod-pow-add}
 use Rattle.std.proofs.Math.Nat.{mul-mod_left, pos_of_ne-zero}
 use Rattle.std.specs.Prelude.{unsigned_abs, int_lt, int_div, int_rem}

@@ -1,4 +1,5 @@
 // Sums, differences, products and quotients.
+// Those that look alike stay apart: one line each over `Width`, each a clause of the specification, under its name there.
 ghost use Rattle.std.specs.Prelude.{◌≡◌};
 ghost use Rattle.numerics.specs.Numerics as wasm;
 ghost use Rattle.numerics.specs.Functions.{unary_at, binary_at, quotient_at};

@@ -1,4 +1,5 @@
 // Tests and comparisons: 1 if it holds, 0 if not.
+// Those that look alike stay apart: one line each over `Width`, each a clause of the specification, under its name there.
 ghost use Rattle.std.specs.Prelude.{◌≡◌};
 ghost use Rattle.numerics.specs.Numerics as wasm;
 ghost use Rattle.numerics.specs.Functions.{unary_at, binary_at};

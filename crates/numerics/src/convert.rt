@@ -1,4 +1,5 @@
 // Conversions from width m to width n. Widths outside 1 to 64, or in the wrong order, are answered by 0.
+// `wrap` and `extend_u` look alike and stay apart: one line each over `Width`, each a clause of the specification, under its name there.
 ghost use Rattle.std.specs.Prelude.{◌≡◌};
 ghost use Rattle.numerics.specs.Numerics as wasm;
 ghost use Rattle.numerics.specs.Functions.{narrowing_at, widening_at};

@@ -1,4 +1,5 @@
 // Sums and differences that stop at the ends of the range.
+// Those that look alike stay apart: one step each over `Width`, each a clause of the specification, under its name there.
 ghost use Rattle.std.specs.Prelude.{◌≡◌};
 ghost use Rattle.numerics.specs.Numerics as wasm;
 ghost use Rattle.numerics.specs.Functions.{binary_at};

@@ -26,7 +26,7 @@ passed {l} {a} {t} s h k r e =
       own = stands_to s1 j r far le;
       own_heads = ap (λ (z : List Val). map head_of z) (between_to s1 j r far le ∙ take_min m ys) ∙ sym (take-map head_of m ys);
       rest = stands_from s1 j r far le;
-      rest_heads = ap (λ (z : List Val). map head_of z) (between_from s1 j r far le ∙ drop_min m ys) ∙ sym (drop-map head_of m ys);
+      rest_heads = ap (λ (z : List Val). map head_of z) (between_from s1 j r far ∙ drop_min m ys) ∙ sym (drop-map head_of m ys);
       sound = g.0;
     }
 

@@ -1,7 +1,6 @@
 -- The records between two places of the stack, taken apart: the first, the first k, those behind them.
 use Rattle.std.specs.Prelude.{◌≡◌, refl, List, ◌∷◌, ◌++◌, map, [], ℕ, zero, suc, ◌+◌, ◌-◌, ◌*◌, ◌≤◌, ◌<◌, min, length, take, drop, get_or}
 use Rattle.std.proofs.Common.{sym, ap, subst, ◌∙◌, arith, length-append, length-drop, drop-cons, take-take, drop-drop, length-take-le}
-use Rattle.std.proofs.lemmas.List.{drop-take}
 use Rattle.std.proofs.Math.Seq.{drop-nil, take-nil, take_all, drop-append-add, take-append-add}
 use Rattle.values.specs.declared.Value.{Value as Val}
 use Rattle.values.specs.Heads.{Head, head_of, All_sound, Sound_value}
@@ -16,6 +15,12 @@ drop_min (suc k) [] = drop-nil (min (suc k) 0)
 drop_min (suc k) (x ∷ l) =
     let e : min (suc k) (suc (length l)) ≡ suc (min k (length l)) = omega arith in
     ap (λ (z : ℕ). drop z (x ∷ l)) e ∙ drop_min k l
+
+drop_of_take : (n m : ℕ) (l : List ℕ) → drop n (take m l) ≡ take (m - n) (drop n l)
+drop_of_take zero m l = let e : m - 0 ≡ m = omega arith in ap (λ (z : ℕ). take z l) (sym e)
+drop_of_take (suc n) zero l = let e : 0 - suc n ≡ 0 = omega arith in ap (λ (z : ℕ). take z (drop (suc n) l)) (sym e)
+drop_of_take (suc n) (suc m) [] = sym (take-nil (suc m - suc n))
+drop_of_take (suc n) (suc m) (x ∷ l) = let e : suc m - suc n ≡ m - n = omega arith in drop_of_take n m l ∙ ap (λ (z : ℕ). take z (drop n l)) (sym e)
 
 sound_drop : (k : ℕ) (vs : List Val) → All_sound vs → All_sound (drop k vs)
 sound_drop zero vs a = a
@@ -73,20 +78,20 @@ words_take (suc k) (v ∷ vs) =
     ap (λ (z : ℕ). take z (value_words v ++ values_words vs)) e ∙ take-append-add (value_words v) (values_words vs) (8 * k)
     ∙ ap (λ (z : List ℕ). value_words v ++ z) (words_take k vs)
 
-words_from : {l : List ℕ} {a t : ℕ} → Stands l a t → (k b : ℕ) → b ≡ a + 8 * k → b ≤ t → take (t - b) (drop b l) ≡ values_words (drop k (between l a t))
-words_from {l} {a} {t} s k b e h =
-    let n : t - a ≡ 8 * k + (t - b) = omega arith in
-    ap (λ (z : List ℕ). take (t - b) z) (ap (λ (z : ℕ). drop z l) e ∙ sym (drop-drop (8 * k) a l)) ∙ sym (drop-take (8 * k) (t - b) (drop a l))
-    ∙ ap (λ (z : ℕ). drop (8 * k) (take z (drop a l))) (sym n) ∙ ap (λ (z : List ℕ). drop (8 * k) z) s.whole ∙ words_drop k (between l a t)
+words_from : {l : List ℕ} {a t : ℕ} → Stands l a t → (k b : ℕ) → b ≡ a + 8 * k → take (t - b) (drop b l) ≡ values_words (drop k (between l a t))
+words_from {l} {a} {t} s k b e =
+    let n : t - b ≡ (t - a) - 8 * k = omega arith in
+    ap (λ (z : ℕ). take z (drop b l)) n ∙ ap (λ (z : List ℕ). take ((t - a) - 8 * k) z) (ap (λ (z : ℕ). drop z l) e ∙ sym (drop-drop (8 * k) a l))
+    ∙ sym (drop_of_take (8 * k) (t - a) (drop a l)) ∙ ap (λ (z : List ℕ). drop (8 * k) z) s.whole ∙ words_drop k (between l a t)
 
-pub between_from : {l : List ℕ} {a t : ℕ} → Stands l a t → (k b : ℕ) → b ≡ a + 8 * k → b ≤ t → between l b t ≡ drop k (between l a t)
-between_from {l} {a} {t} s k b e h = ap values_in (words_from s k b e h) ∙ values_back (drop k (between l a t))
+pub between_from : {l : List ℕ} {a t : ℕ} → Stands l a t → (k b : ℕ) → b ≡ a + 8 * k → between l b t ≡ drop k (between l a t)
+between_from {l} {a} {t} s k b e = ap values_in (words_from s k b e) ∙ values_back (drop k (between l a t))
 
 pub stands_from : {l : List ℕ} {a t : ℕ} → Stands l a t → (k b : ℕ) → b ≡ a + 8 * k → b ≤ t → Stands l b t
 stands_from {l} {a} {t} s k b e h =
-    let e1 = between_from s k b e h in
+    let e1 = between_from s k b e in
     let n = length-drop k (between l a t) in
-    record { whole = words_from s k b e h ∙ ap values_words (sym e1); sound = rw e1 (sound_drop k (between l a t) s.sound); ends = rw e1 (omega arith) }
+    record { whole = words_from s k b e ∙ ap values_words (sym e1); sound = rw e1 (sound_drop k (between l a t) s.sound); ends = rw e1 (omega arith) }
 
 words_to : {l : List ℕ} {a t : ℕ} → Stands l a t → (k b : ℕ) → b ≡ a + 8 * k → b ≤ t → take (b - a) (drop a l) ≡ values_words (take k (between l a t))
 words_to {l} {a} {t} s k b e h =

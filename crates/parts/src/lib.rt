@@ -25,6 +25,8 @@ fn records_of(v: Value) -> u64
     }
 }
 
+// Where the records begin and end is asked call by call, here and below: two places in the lent stack, and no fact of a value or of the stack.
+
 // The place behind the value at `at`. A head that counts more records than stand there ends where they end.
 fn behind(stack: &[u64], at: usize, end: usize) -> usize
     requires { (at < end) × (end ≤ length stack.now) × Stands stack.now at end }

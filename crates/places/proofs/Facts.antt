@@ -21,7 +21,7 @@ use Rattle.tables.specs.declared.Placed.{Placed}
 use Rattle.tables.specs.declared.lookups.Tables as code
 use Rattle.tables.specs.Ticket.{ticket_of}
 use Rattle.tables.specs.Tables.{tab, run, placed_line, variables_of, statics_of, tables_of, tree_of}
-use Rattle.tables.proofs.Laws.{run_more, nth_run, nth_run_out, take_run, size_here, word_here, args_here, tree_none, tree_here, place_none, place_here, nth_variable, nth_static}
+use Rattle.tables.proofs.Laws.{run_more, nth_run, nth_run_out, take_run, size_here, place_none, place_here, nth_variable, nth_static}
 use Rattle.places.proofs.Laws.{steps}
 use Rattle.places.specs.Abstract.{Held}
 
@@ -57,13 +57,13 @@ held_line T r ty = record { most = subst (λ n. n ≤ type_size_limit) (r.types.
 
 -- a variable's or static's offset is small
 module _ (t : code.Tables) (k : ℕ) (found : Option Placed) where
-  pub variable_near : nth (variables_of t.rows.now t.lists.now t.counts) k ≡ option_map placed_line found → ForSome found (λ p. p.offset ≤ offset_limit)
+  pub variable_near : nth (variables_of t.lines.rows.now t.lines.lists.now t.lines.counts) k ≡ option_map placed_line found → ForSome found (λ p. p.offset ≤ offset_limit)
   unfolding tables_of
-  variable_near e = λ p g. (All_nth (PlacedRight (ticket_of t)) (ticket_of t).variables k (placed_line p) t.readable.variables (e ∙ ap (option_map placed_line) g)).offset_most
+  variable_near e = λ p g. (All_nth (PlacedRight (ticket_of t.lines)) (ticket_of t.lines).variables k (placed_line p) t.readable.variables (e ∙ ap (option_map placed_line) g)).offset_most
 
-  pub static_near : nth (statics_of t.rows.now t.lists.now t.counts) k ≡ option_map placed_line found → ForSome found (λ p. p.offset ≤ offset_limit)
+  pub static_near : nth (statics_of t.lines.rows.now t.lines.lists.now t.lines.counts) k ≡ option_map placed_line found → ForSome found (λ p. p.offset ≤ offset_limit)
   unfolding tables_of
-  static_near e = λ p g. (All_nth (PlacedRight (ticket_of t)) (ticket_of t).statics k (placed_line p) t.readable.statics (e ∙ ap (option_map placed_line) g)).offset_most
+  static_near e = λ p g. (All_nth (PlacedRight (ticket_of t.lines)) (ticket_of t.lines).statics k (placed_line p) t.readable.statics (e ∙ ap (option_map placed_line) g)).offset_most
 
 -- ---------------------------------------------------------------- what is no integer node
 

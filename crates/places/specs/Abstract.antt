@@ -94,4 +94,4 @@ pub record Held (T : Tables) (w : TypeWord) (xs : List ℕ) : Type 0 where
   pub most : type_size_by (type_size T) w xs ≤ type_size_limit
 
 abbrev pub IsHeld : code.Tables → TypeKind → Type 0
-IsHeld t k = Held (ticket_of t) (type_word k) (type_args t.lists.now k)
+IsHeld t k = Held (ticket_of t.lines) (type_word k) (type_args t.lines.lists.now k)

@@ -31,5 +31,4 @@ pub struct Location {
     pub offset: u64,
     pub ty: u64,
     pub bit: bool,
-    pub ghost offset_most: { offset ≤ offset_limit },
 }

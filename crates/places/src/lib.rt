@@ -24,12 +24,12 @@ const OFFSET_LIMIT: u64 = 65535;
 
 /// An index or an offset of a place is looked at, and never lowered.
 pub fn constant_usize(tables: &Tables<'_>, depth: u64, e: u64) -> Option<u64>
-    ensures { constant_usize (expr_at depth (ticket_of tables.now) e) ≡ result }
+    ensures { constant_usize (expr_at depth (ticket_of tables.now.lines) e) ≡ result }
 {
     if depth == 0 {
         return None;
     }
-    match tables.node_at(e) {
+    match tables.lines.node_at(e) {
         NodeKind::Int(n) => Some(n),
         _ => None,
     }
@@ -60,12 +60,12 @@ fn array_of(kind: TypeKind) -> Option<(u64, u64)>
 // The sizes of the first n fields, added up.
 #[tactic(auto, using(crate::proofs::Facts::sums))]
 fn sizes_before(tables: &Tables<'_>, start: u64, n: u64) -> u64
-    requires { sum (type_size (ticket_of tables.now)) (run tables.now.lists.now start n) ≤ type_size_limit }
-    ensures { result ≡ sum (type_size (ticket_of tables.now)) (run tables.now.lists.now start n) }
+    requires { sum (type_size (ticket_of tables.now.lines)) (run tables.now.lines.lists.now start n) ≤ type_size_limit }
+    ensures { result ≡ sum (type_size (ticket_of tables.now.lines)) (run tables.now.lines.lists.now start n) }
 {
     let mut total = 0;
     for i in 0..n {
-        total += tables.type_size(tables.list_at(start, i));
+        total += tables.lines.type_size(tables.lines.list_at(start, i));
     }
     total
 }
@@ -73,14 +73,14 @@ fn sizes_before(tables: &Tables<'_>, start: u64, n: u64) -> u64
 #[tactic(auto, using(crate::proofs::Facts::parts), unfolding(spec::specs::Places::field_offset, spec::specs::Monad::or_refuse))]
 pub fn field_offset(tables: &Tables<'_>, kind: TypeKind, i: u64) -> Result<Part, Refusal>
     requires { IsHeld tables.now kind }
-    ensures { field_offset (ticket_of tables.now) (type_word kind) (type_args tables.now.lists.now kind) i ≡ outcome_of part_from result }
+    ensures { field_offset (ticket_of tables.now.lines) (type_word kind) (type_args tables.now.lines.lists.now kind) i ≡ outcome_of part_from result }
 {
     let (start, count) = fields_of(kind).ok_or(Refusal::InvalidPlace)?;
     if count <= i {
         return Err(Refusal::InvalidPlace);
     }
     let offset = sizes_before(tables, start, i);
-    let ty = tables.list_at(start, i);
+    let ty = tables.lines.list_at(start, i);
     Ok(Part { offset, ty })
 }
 
@@ -93,14 +93,14 @@ pub fn element_offset(
     e: u64,
 ) -> Result<Part, Refusal>
     requires { IsHeld tables.now kind }
-    ensures { element_offset (ticket_of tables.now) (type_word kind) (type_args tables.now.lists.now kind) (expr_at depth (ticket_of tables.now) e) ≡ outcome_of part_from result }
+    ensures { element_offset (ticket_of tables.now.lines) (type_word kind) (type_args tables.now.lines.lists.now kind) (expr_at depth (ticket_of tables.now.lines) e) ≡ outcome_of part_from result }
 {
     let (element, length) = array_of(kind).ok_or(Refusal::InvalidPlace)?;
     let index = constant_usize(tables, depth, e).ok_or(Refusal::InvalidPlace)?;
     if length <= index {
         return Err(Refusal::InvalidPlace);
     }
-    let size = tables.type_size(element);
+    let size = tables.lines.type_size(element);
     Ok(Part {
         offset: index * size,
         ty: element,
@@ -123,14 +123,14 @@ fn within(offset: u64, n: u64) -> Result<u64, Refusal>
 // A base whose type is a line's.
 fn typed_base(tables: &Tables<'_>, storage: StorageId, offset: u64, ty: u64, bit: bool) -> Base
     requires { offset ≤ offset_limit }
-    ensures base { base_from tables.now.lists.now result ≡ typed_base (ticket_of tables.now) storage.0 offset ty bit }
+    ensures base { base_from tables.now.lines.lists.now result ≡ typed_base (ticket_of tables.now.lines) storage.0 offset ty bit }
     ensures held { IsHeld tables.now result.kind }
 {
     Base {
         storage,
         offset,
-        kind: tables.type_at(ty),
-        size: tables.type_size(ty),
+        kind: tables.lines.type_at(ty),
+        size: tables.lines.type_size(ty),
         bit,
     }
 }
@@ -139,7 +139,7 @@ fn typed_base(tables: &Tables<'_>, storage: StorageId, offset: u64, ty: u64, bit
 #[tactic(auto, using(crate::proofs::Laws::steps), unfolding(spec::specs::Places::base_of, spec::specs::Monad::or_refuse))]
 fn placed_base(tables: &Tables<'_>, found: Option<Placed>) -> Result<Base, Refusal>
     requires { ForSome found (λ p. p.offset ≤ offset_limit) }
-    ensures step { placed_step (ticket_of tables.now) (option_map placed_line found) ≡ outcome_of (base_from tables.now.lists.now) result }
+    ensures step { placed_step (ticket_of tables.now.lines) (option_map placed_line found) ≡ outcome_of (base_from tables.now.lines.lists.now) result }
     ensures held { IfOk result (λ b. IsHeld tables.now b.kind) }
 {
     let p = found.ok_or(Refusal::UnknownPlace)?;
@@ -148,7 +148,7 @@ fn placed_base(tables: &Tables<'_>, found: Option<Placed>) -> Result<Base, Refus
 
 #[tactic(auto, using(crate::proofs::Laws::steps), unfolding(spec::specs::Places::part_of))]
 fn part_base(tables: &Tables<'_>, base: Base, part: Part) -> Result<Base, Refusal>
-    ensures step { part_step (ticket_of tables.now) (base_from tables.now.lists.now base) (part_from part) ≡ outcome_of (base_from tables.now.lists.now) result }
+    ensures step { part_step (ticket_of tables.now.lines) (base_from tables.now.lines.lists.now base) (part_from part) ≡ outcome_of (base_from tables.now.lines.lists.now) result }
     ensures held { IfOk result (λ b. IsHeld tables.now b.kind) }
 {
     let offset = within(base.offset, part.offset)?;
@@ -175,15 +175,15 @@ fn rest_base(base: Base, n: u64) -> Result<Base, Refusal>
 /// Place line p as a base, `depth` lines deep at most.
 #[tactic(auto, using(crate::proofs::Facts::led), unfolding(spec::specs::Places::resolve_place_base, spec::specs::Monad::or_refuse))]
 pub fn resolve_place_base(tables: &Tables<'_>, depth: u64, p: u64) -> Result<Base, Refusal>
-    ensures step { base_at (ticket_of tables.now) depth p ≡ outcome_of (base_from tables.now.lists.now) result }
+    ensures step { base_at (ticket_of tables.now.lines) depth p ≡ outcome_of (base_from tables.now.lines.lists.now) result }
     ensures held { IfOk result (λ b. IsHeld tables.now b.kind) }
 {
     if depth == 0 {
-        return placed_base(tables, tables.variable_at(0));
+        return placed_base(tables, tables.lines.variable_at(0));
     }
-    match tables.place_at(p) {
-        PlaceKind::Variable(k) => placed_base(tables, tables.variable_at(k)),
-        PlaceKind::Static(k) => placed_base(tables, tables.static_at(k)),
+    match tables.lines.place_at(p) {
+        PlaceKind::Variable(k) => placed_base(tables, tables.lines.variable_at(k)),
+        PlaceKind::Static(k) => placed_base(tables, tables.lines.static_at(k)),
         PlaceKind::Field(q, i) => {
             let base = resolve_place_base(tables, depth - 1, q)?;
             let part = field_offset(tables, base.kind, i)?;
@@ -205,7 +205,8 @@ pub fn resolve_place_base(tables: &Tables<'_>, depth: u64, p: u64) -> Result<Bas
 #[tactic(auto, using(crate::proofs::Laws::steps), unfolding(spec::specs::Places::with_type, spec::specs::Monad::require))]
 pub fn with_type(found: Placed, ty: u64) -> Result<Location, Refusal>
     requires { found.offset ≤ offset_limit }
-    ensures { (T : Ticket) → with_type T ty (placed_line found) ≡ outcome_of location_from result }
+    ensures at { (T : Ticket) → with_type T ty (placed_line found) ≡ outcome_of location_from result }
+    ensures near { IfOk result (λ x. x.offset ≤ offset_limit) }
 {
     if found.ty != ty {
         return Err(Refusal::TypeMismatch);
@@ -222,7 +223,8 @@ pub fn with_type(found: Placed, ty: u64) -> Result<Location, Refusal>
 #[tactic(auto, using(crate::proofs::Laws::steps), unfolding(spec::specs::Monad::or_refuse))]
 fn placed_location(found: Option<Placed>, ty: u64) -> Result<Location, Refusal>
     requires { ForSome found (λ p. p.offset ≤ offset_limit) }
-    ensures { (T : Ticket) → placed_located T ty (option_map placed_line found) ≡ outcome_of location_from result }
+    ensures at { (T : Ticket) → placed_located T ty (option_map placed_line found) ≡ outcome_of location_from result }
+    ensures near { IfOk result (λ x. x.offset ≤ offset_limit) }
 {
     let p = found.ok_or(Refusal::UnknownPlace)?;
     with_type(p, ty)
@@ -230,7 +232,8 @@ fn placed_location(found: Option<Placed>, ty: u64) -> Result<Location, Refusal>
 
 #[tactic(auto, using(crate::proofs::Laws::steps), unfolding(spec::specs::Places::location_in))]
 fn location_in(base: Base, o: u64, ty: u64) -> Result<Location, Refusal>
-    ensures { (T : Ticket) (lists : List ℕ) → location_in T (base_from lists base) o ty ≡ outcome_of location_from result }
+    ensures at { (T : Ticket) (lists : List ℕ) → location_in T (base_from lists base) o ty ≡ outcome_of location_from result }
+    ensures near { IfOk result (λ x. x.offset ≤ offset_limit) }
 {
     let offset = within(base.offset, o)?;
     Ok(Location {
@@ -244,7 +247,8 @@ fn location_in(base: Base, o: u64, ty: u64) -> Result<Location, Refusal>
 // 22 comes before 27.
 #[tactic(auto, using(crate::proofs::Laws::steps), unfolding(spec::specs::Monad::require))]
 fn part_location(base: Base, part: Part, ty: u64) -> Result<Location, Refusal>
-    ensures { (T : Ticket) (lists : List ℕ) → part_located T ty (base_from lists base) (part_from part) ≡ outcome_of location_from result }
+    ensures at { (T : Ticket) (lists : List ℕ) → part_located T ty (base_from lists base) (part_from part) ≡ outcome_of location_from result }
+    ensures near { IfOk result (λ x. x.offset ≤ offset_limit) }
 {
     if part.ty != ty {
         return Err(Refusal::TypeMismatch);
@@ -256,14 +260,15 @@ fn part_location(base: Base, part: Part, ty: u64) -> Result<Location, Refusal>
 /// Where a value of type ty stands that place line p leads to.
 #[tactic(auto, using(crate::proofs::Facts::led), unfolding(spec::specs::Places::resolve_place, spec::specs::Monad::or_refuse))]
 pub fn resolve_place(tables: &Tables<'_>, depth: u64, p: u64, ty: u64) -> Result<Location, Refusal>
-    ensures { location_at (ticket_of tables.now) depth p ty ≡ outcome_of location_from result }
+    ensures at { location_at (ticket_of tables.now.lines) depth p ty ≡ outcome_of location_from result }
+    ensures near { IfOk result (λ x. x.offset ≤ offset_limit) }
 {
     if depth == 0 {
-        return placed_location(tables.variable_at(0), ty);
+        return placed_location(tables.lines.variable_at(0), ty);
     }
-    match tables.place_at(p) {
-        PlaceKind::Variable(k) => placed_location(tables.variable_at(k), ty),
-        PlaceKind::Static(k) => placed_location(tables.static_at(k), ty),
+    match tables.lines.place_at(p) {
+        PlaceKind::Variable(k) => placed_location(tables.lines.variable_at(k), ty),
+        PlaceKind::Static(k) => placed_location(tables.lines.static_at(k), ty),
         PlaceKind::Field(q, i) => {
             let base = resolve_place_base(tables, depth - 1, q)?;
             let part = field_offset(tables, base.kind, i)?;
@@ -284,7 +289,7 @@ pub fn resolve_place(tables: &Tables<'_>, depth: u64, p: u64, ty: u64) -> Result
 
 /// The Rust answers a base and its offset again; a base holds its offset.
 pub fn resolve_addressed_place(tables: &Tables<'_>, depth: u64, p: u64) -> Result<Base, Refusal>
-    ensures step { base_at (ticket_of tables.now) depth p ≡ outcome_of (base_from tables.now.lists.now) result }
+    ensures step { base_at (ticket_of tables.now.lines) depth p ≡ outcome_of (base_from tables.now.lines.lists.now) result }
     ensures held { IfOk result (λ b. IsHeld tables.now b.kind) }
 {
     resolve_place_base(tables, depth, p)

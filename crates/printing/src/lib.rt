@@ -1,10 +1,10 @@
 // Lines of the listing that are printed once lowering has ended: the storages that are narrowed, and the value.
 #![tactic(auto)]
 
-ghost use Rattle.std.specs.Prelude.{◌∷◌, ◌≤◌, length};
+ghost use Rattle.std.specs.Prelude.{◌∷◌};
 ghost use Rattle.text.specs.Writes.{Writes};
 ghost use Rattle.values.specs.Heads.{head_of, Sound_value};
-ghost use Rattle.values.specs.Stack.{heads, Stands};
+ghost use Rattle.parts.specs.Records.{heads_in, AreRecords};
 ghost use Rattle.printing.specs.Lines.{head_line, head_lines};
 ghost use Rattle.printing.specs.Marks.{marks_from, narrowed_lines};
 
@@ -25,18 +25,20 @@ fn print_head(w: &mut Writer<'_>, v: Value)
     }
 }
 
-/// A value's lines: its head's, then those of its parts, which stand between two places of the stack.
-pub fn print_value(w: &mut Writer<'_>, stack: &[u64], v: Value, from: usize, end: usize)
-    requires { (Sound_value v) × (from ≤ end) × (end ≤ length stack.now) × (Stands stack.now from end) }
-    ensures { Writes w.old (head_lines (head_of v ∷ heads stack.now from end)) w.new }
+/// A value's lines: its head's, then those of its parts, by their records.
+#[tactic(auto, using(crate::proofs::Laws::printing_first, crate::proofs::Laws::next_sound))]
+pub fn print_value(w: &mut Writer<'_>, v: Value, records: &[u64])
+    requires { (Sound_value v) × (AreRecords records.now) }
+    ensures { Writes w.old (head_lines (head_of v ∷ heads_in records.now)) w.new }
 {
     print_head(w, v);
-    for record in stack[from..end].chunks_exact(8) {
+    for record in records.chunks_exact(8) {
         print_head(w, values::value_at(record, 0));
     }
 }
 
 /// A line for each of the first n storages that is marked.
+#[tactic(auto, using(crate::proofs::Laws::marking_none))]
 pub fn print_narrowed(w: &mut Writer<'_>, narrowed: &[u64], n: u64)
     ensures { Writes w.old (narrowed_lines (marks_from n 0 narrowed.now)) w.new }
 {

@@ -11,6 +11,7 @@ use std::io::{self, Read};
 use ticket::ReadError;
 use ticket::reading::read_ticket;
 
+// Number and line are as in the head, where number 0 stands for no refusal.
 fn holds(ticket: &[u8], number: u64, line: u64) -> bool
     ensures { Holds (ticket_read ticket.now) number line result }
 {
@@ -27,21 +28,19 @@ fn holds(ticket: &[u8], number: u64, line: u64) -> bool
 }
 
 // The next ticket, behind its head.
-fn replay<R: Read>(reader: &mut R, head: [u64; 3]) -> bool {
+fn replay<R: Read>(reader: &mut R) -> Option<bool> {
+    let Ok(head) = cases::line_head::<3, R>(reader)? else {
+        return Some(false);
+    };
     let [size, number, line] = head;
-    let size = size as usize;
     let mut ticket = [0; 65538];
-    cases::read(reader, &mut ticket, size) && holds(cases::first(&ticket, size), number, line)
-}
-
-fn next<R: Read>(reader: &mut R) -> Option<bool> {
-    match cases::line_head(reader)? {
-        Ok(head) => Some(replay(reader, head)),
-        Err(_) => Some(false),
-    }
+    let Some(ticket) = cases::read(reader, &mut ticket, size as usize) else {
+        return Some(false);
+    };
+    Some(holds(ticket, number, line))
 }
 
 fn main(rt: HostRuntime) -> io::Result<()> {
-    let mut reader = rt.stdin();
-    cases::run(&mut reader, next).print(&rt, "tickets")
+    let tally = cases::run(&mut rt.stdin(), replay);
+    tally.print(&rt, "tickets")
 }

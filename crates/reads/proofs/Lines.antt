@@ -89,74 +89,74 @@ pub record Parted (T : Tables) (lists : List ℕ) (ty : ℕ) (p : Parts) (n : �
   pub read : (rd : ℕ → ℕ → Lower Value) (s o : ℕ) → read_word T rd s ty o (type_at T ty).word (type_at T ty).args ≡ gathered ty (read_fields T rd o (part_types lists p 0 n))
 
 module _ (t : code.Tables) (ty : ℕ) where
-  pub size_at_of : size_of (ticket_of t) ty ≡ size_at t.rows.now t.counts ty
+  pub size_at_of : size_of (ticket_of t.lines) ty ≡ size_at t.lines.rows.now t.lines.counts ty
   unfolding type_line
-  size_at_of = ap (λ (z : TypeLine). z.size) (type_at_lem t.rows.now t.lists.now t.counts ty)
+  size_at_of = ap (λ (z : TypeLine). z.size) (type_at_lem t.lines.rows.now t.lines.lists.now t.lines.counts ty)
 
   -- reading at a depth that is not 0
   read_deeper : (d s o : ℕ) → (d ≡ 0 → ⊥)
-      → read_bytes_as_type (ticket_of t) d s ty o ≡ read_word (ticket_of t) (λ t' p. read_bytes_as_type (ticket_of t) (d - 1) s t' p) s ty o (type_at (ticket_of t) ty).word (type_at (ticket_of t) ty).args
+      → read_bytes_as_type (ticket_of t.lines) d s ty o ≡ read_word (ticket_of t.lines) (λ t' p. read_bytes_as_type (ticket_of t.lines) (d - 1) s t' p) s ty o (type_at (ticket_of t.lines) ty).word (type_at (ticket_of t.lines) ty).args
   unfolding read_bytes_as_type
   read_deeper zero s o g = absurd (g refl)
   read_deeper (suc d) s o g = let f : suc d - 1 ≡ d = omega arith in rw f
 
-  module _ (k : TypeKind) (e : type_kind_at t.rows.now t.lists.now t.counts ty ≡ k) where
+  module _ (k : TypeKind) (e : type_kind_at t.lines.rows.now t.lines.lists.now t.lines.counts ty ≡ k) where
     word_read : (rd : ℕ → ℕ → Lower Value) (s o : ℕ)
-        → read_word (ticket_of t) rd s ty o (type_at (ticket_of t) ty).word (type_at (ticket_of t) ty).args ≡ read_word (ticket_of t) rd s ty o (type_word k) (type_args t.lists.now k)
-    word_read rd s o = rw e at (looks_here t.rows.now t.lists.now t.counts (looks_read (ticket_of t) rd s ty o) ty)
+        → read_word (ticket_of t.lines) rd s ty o (type_at (ticket_of t.lines) ty).word (type_at (ticket_of t.lines) ty).args ≡ read_word (ticket_of t.lines) rd s ty o (type_word k) (type_args t.lines.lists.now k)
+    word_read rd s o = rw e at (looks_here t.lines.rows.now t.lines.lists.now t.lines.counts (looks_read (ticket_of t.lines) rd s ty o) ty)
 
     pub read_here : (d s o : ℕ) → (d ≡ 0 → ⊥)
-        → read_bytes_as_type (ticket_of t) d s ty o ≡ read_word (ticket_of t) (λ t' p. read_bytes_as_type (ticket_of t) (d - 1) s t' p) s ty o (type_word k) (type_args t.lists.now k)
-    read_here d s o g = read_deeper d s o g ∙ word_read (λ t' p. read_bytes_as_type (ticket_of t) (d - 1) s t' p) s o
+        → read_bytes_as_type (ticket_of t.lines) d s ty o ≡ read_word (ticket_of t.lines) (λ t' p. read_bytes_as_type (ticket_of t.lines) (d - 1) s t' p) s ty o (type_word k) (type_args t.lines.lists.now k)
+    read_here d s o g = read_deeper d s o g ∙ word_read (λ t' p. read_bytes_as_type (ticket_of t.lines) (d - 1) s t' p) s o
 
-    sized_here : size_of (ticket_of t) ty ≡ type_size_by (size_of (ticket_of t)) (type_word k) (type_args t.lists.now k)
+    sized_here : size_of (ticket_of t.lines) ty ≡ type_size_by (size_of (ticket_of t.lines)) (type_word k) (type_args t.lines.lists.now k)
     sized_here =
         let R = t.readable.types in
-        R.sized ty ∙ rw (word_here t.rows.now t.lists.now t.counts ty, args_here t.rows.now t.lists.now t.counts R ty, e)
+        R.sized ty ∙ rw (word_here t.lines.rows.now t.lines.lists.now t.lines.counts ty, args_here t.lines.rows.now t.lines.lists.now t.lines.counts R ty, e)
 
-    weighed_here : weight_of (ticket_of t) ty ≡ weight_by (weight_of (ticket_of t)) (type_word k) (type_args t.lists.now k)
+    weighed_here : weight_of (ticket_of t.lines) ty ≡ weight_by (weight_of (ticket_of t.lines)) (type_word k) (type_args t.lines.lists.now k)
     weighed_here =
         let R = t.readable.types in
-        R.weighed ty ∙ rw (word_here t.rows.now t.lists.now t.counts ty, args_here t.rows.now t.lists.now t.counts R ty, e)
+        R.weighed ty ∙ rw (word_here t.lines.rows.now t.lines.lists.now t.lines.counts ty, args_here t.lines.rows.now t.lines.lists.now t.lines.counts R ty, e)
 
   -- the kinds that are read as the bytes that stand there
-  pub plain_here : {k : TypeKind} → (((x : ℕ) × k ≡ TypeKind.Bits x) ⊎ ((k ≡ TypeKind.Pointer) ⊎ ((x : ℕ) × k ≡ TypeKind.Opaque x))) → k ≡ type_kind_at t.rows.now t.lists.now t.counts ty
-      → (d s o : ℕ) → (d ≡ 0 → ⊥) → read_bytes_as_type (ticket_of t) d s ty o ≡ read_plain (ticket_of t) s ty o
+  pub plain_here : {k : TypeKind} → (((x : ℕ) × k ≡ TypeKind.Bits x) ⊎ ((k ≡ TypeKind.Pointer) ⊎ ((x : ℕ) × k ≡ TypeKind.Opaque x))) → k ≡ type_kind_at t.lines.rows.now t.lines.lists.now t.lines.counts ty
+      → (d s o : ℕ) → (d ≡ 0 → ⊥) → read_bytes_as_type (ticket_of t.lines) d s ty o ≡ read_plain (ticket_of t.lines) s ty o
   unfolding read_word
   plain_here (inl b) e = read_here (TypeKind.Bits b.0) (sym e ∙ b.1)
   plain_here (inr (inl p)) e = read_here TypeKind.Pointer (sym e ∙ p)
   plain_here (inr (inr q)) e = read_here (TypeKind.Opaque q.0) (sym e ∙ q.1)
 
-  pub bool_size : type_kind_at t.rows.now t.lists.now t.counts ty ≡ TypeKind.Bool → size_of (ticket_of t) ty ≡ 1
+  pub bool_size : type_kind_at t.lines.rows.now t.lines.lists.now t.lines.counts ty ≡ TypeKind.Bool → size_of (ticket_of t.lines) ty ≡ 1
   bool_size e = sized_here TypeKind.Bool e
 
-  pub parted_array : {k : TypeKind} {a n : ℕ} → k ≡ TypeKind.Array a n → k ≡ type_kind_at t.rows.now t.lists.now t.counts ty → Parted (ticket_of t) t.lists.now ty (Parts.Elements a) n
+  pub parted_array : {k : TypeKind} {a n : ℕ} → k ≡ TypeKind.Array a n → k ≡ type_kind_at t.lines.rows.now t.lines.lists.now t.lines.counts ty → Parted (ticket_of t.lines) t.lines.lists.now ty (Parts.Elements a) n
   unfolding read_word
   parted_array {a = a} {n} p e =
-      let T = ticket_of t in
+      let T = ticket_of t.lines in
       let k = TypeKind.Array a n in
       let g = sym e ∙ p in
       record {
-        size = sized_here k g ∙ rw (elements_types t.lists.now a n, sum_same (size_of T) a n) (omega arith);
-        weight = weighed_here k g ∙ rw (elements_types t.lists.now a n, sum_same (weight_of T) a n);
-        read = λ rd s o. word_read k g rd s o ∙ rw (elements_types t.lists.now a n, elements_fields T rd a o n);
+        size = sized_here k g ∙ rw (elements_types t.lines.lists.now a n, sum_same (size_of T) a n) (omega arith);
+        weight = weighed_here k g ∙ rw (elements_types t.lines.lists.now a n, sum_same (weight_of T) a n);
+        read = λ rd s o. word_read k g rd s o ∙ rw (elements_types t.lines.lists.now a n, elements_fields T rd a o n);
       }
 
   -- whose numbers are its parts
-  fielded : (k : TypeKind) (a n : ℕ) → type_kind_at t.rows.now t.lists.now t.counts ty ≡ k → type_size_by (size_of (ticket_of t)) (type_word k) (type_args t.lists.now k) ≡ sum (size_of (ticket_of t)) (run t.lists.now a n)
-      → weight_by (weight_of (ticket_of t)) (type_word k) (type_args t.lists.now k) ≡ 1 + sum (weight_of (ticket_of t)) (run t.lists.now a n)
-      → ((rd : ℕ → ℕ → Lower Value) (s o : ℕ) → read_word (ticket_of t) rd s ty o (type_word k) (type_args t.lists.now k) ≡ gathered ty (read_fields (ticket_of t) rd o (run t.lists.now a n)))
-      → Parted (ticket_of t) t.lists.now ty (Parts.Fields a) n
+  fielded : (k : TypeKind) (a n : ℕ) → type_kind_at t.lines.rows.now t.lines.lists.now t.lines.counts ty ≡ k → type_size_by (size_of (ticket_of t.lines)) (type_word k) (type_args t.lines.lists.now k) ≡ sum (size_of (ticket_of t.lines)) (run t.lines.lists.now a n)
+      → weight_by (weight_of (ticket_of t.lines)) (type_word k) (type_args t.lines.lists.now k) ≡ 1 + sum (weight_of (ticket_of t.lines)) (run t.lines.lists.now a n)
+      → ((rd : ℕ → ℕ → Lower Value) (s o : ℕ) → read_word (ticket_of t.lines) rd s ty o (type_word k) (type_args t.lines.lists.now k) ≡ gathered ty (read_fields (ticket_of t.lines) rd o (run t.lines.lists.now a n)))
+      → Parted (ticket_of t.lines) t.lines.lists.now ty (Parts.Fields a) n
   fielded k a n g e f r =
-      let q = fields_types t.lists.now a n in
+      let q = fields_types t.lines.lists.now a n in
       record { size = sized_here k g ∙ rw (q, e); weight = weighed_here k g ∙ rw (q, f); read = λ rd s o. word_read k g rd s o ∙ rw q (r rd s o) }
 
-  pub parted_fields : {k : TypeKind} {a n : ℕ} → ((k ≡ TypeKind.Struct a n) ⊎ (k ≡ TypeKind.Tuple a n)) → k ≡ type_kind_at t.rows.now t.lists.now t.counts ty → Parted (ticket_of t) t.lists.now ty (Parts.Fields a) n
+  pub parted_fields : {k : TypeKind} {a n : ℕ} → ((k ≡ TypeKind.Struct a n) ⊎ (k ≡ TypeKind.Tuple a n)) → k ≡ type_kind_at t.lines.rows.now t.lines.lists.now t.lines.counts ty → Parted (ticket_of t.lines) t.lines.lists.now ty (Parts.Fields a) n
   unfolding read_word
   parted_fields {a = a} {n} (inl p) e = fielded (TypeKind.Struct a n) a n (sym e ∙ p) refl refl (λ rd s o. refl)
   parted_fields {a = a} {n} (inr p) e = fielded (TypeKind.Tuple a n) a n (sym e ∙ p) refl refl (λ rd s o. refl)
 
   -- a type by its parts
-  pub read_parted : {p : Parts} {n : ℕ} → Parted (ticket_of t) t.lists.now ty p n → (d s o : ℕ) → (d ≡ 0 → ⊥)
-      → read_bytes_as_type (ticket_of t) d s ty o ≡ gathered ty (read_fields (ticket_of t) (λ t' p. read_bytes_as_type (ticket_of t) (d - 1) s t' p) o (part_types t.lists.now p 0 n))
-  read_parted q d s o g = read_deeper d s o g ∙ q.read (λ t' p. read_bytes_as_type (ticket_of t) (d - 1) s t' p) s o
+  pub read_parted : {p : Parts} {n : ℕ} → Parted (ticket_of t.lines) t.lines.lists.now ty p n → (d s o : ℕ) → (d ≡ 0 → ⊥)
+      → read_bytes_as_type (ticket_of t.lines) d s ty o ≡ gathered ty (read_fields (ticket_of t.lines) (λ t' p. read_bytes_as_type (ticket_of t.lines) (d - 1) s t' p) o (part_types t.lines.lists.now p 0 n))
+  read_parted q d s o g = read_deeper d s o g ∙ q.read (λ t' p. read_bytes_as_type (ticket_of t.lines) (d - 1) s t' p) s o

@@ -37,7 +37,8 @@ pub record TypeRoom (T : Tables) (n ty o : ℕ) (l : Lowering) : Type 0 where
   pub top : l.top + 8 * weight_of T ty ≤ length l.stack.now + 8
   pub reach : o + size_of T ty ≤ 4294967296
 
--- for node n's own step at the type ty: more of each counter than any step uses, and the records of a value of that type but the first
+-- for node n's own step at the type ty: more of each counter than any step uses, and the records of a value of that type but the first.
+-- Asked call by call, as `Room`: what a step uses up is gone for the next.
 pub record StepRoom (T : Tables) (n ty : ℕ) (l : Lowering) : Type 0 where
   pub node : n ≡ l.out.node.0
   pub room : Room 4096 l.out

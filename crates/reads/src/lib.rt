@@ -23,9 +23,11 @@ use places::Location;
 use tables::{Tables, TypeKind};
 use values::{Lowering, Repr, Value};
 
+// The limit of that name in line_checks, which this crate does not lean on; another here would not prove.
 const TYPE_DEPTH_LIMIT: u64 = 16;
 
-/// The node whose own step it is.
+/// The node whose own step it is. Its number is that of the emitter too, as a premise of each step says: what refuses has no emitter at hand,
+/// and what appends no `At`.
 #[derive(Clone, Copy, Debug, PartialEq, Eq)]
 pub struct At {
     pub line: u64,
@@ -55,11 +57,11 @@ enum Parts {
 impl Parts {
     // The type of part i.
     fn ty(self, tables: &Tables<'_>, i: u64) -> u64
-        ensures { result ≡ part_type tables.now.lists.now self i }
+        ensures { result ≡ part_type tables.now.lines.lists.now self i }
     {
         match self {
             Parts::Elements(ty) => ty,
-            Parts::Fields(start) => tables.list_at(start, i),
+            Parts::Fields(start) => tables.lines.list_at(start, i),
         }
     }
 }
@@ -80,11 +82,12 @@ fn read_bool(l: &mut Lowering<'_>, storage: StorageId, ty: u64, o: u64) -> Value
 }
 
 // Bytes that stand where they are.
+#[tactic(auto, using(tables::proofs::Laws::size_here, crate::proofs::Laws::plain_meets, crate::proofs::Lines::size_at_of))]
 fn read_plain(tables: &Tables<'_>, storage: StorageId, ty: u64, o: u64) -> Value
-    requires { o + size_of (ticket_of tables.now) ty ≤ 4294967296 }
-    ensures { (l : Lowers) (h : hir.At) → MeetsValue l (read_plain (ticket_of tables.now) storage.0 ty o h (counters_in l)) l (Ok result) }
+    requires { o + size_of (ticket_of tables.now.lines) ty ≤ 4294967296 }
+    ensures { (l : Lowers) (h : hir.At) → MeetsValue l (read_plain (ticket_of tables.now.lines) storage.0 ty o h (counters_in l)) l (Ok result) }
 {
-    let size = tables.type_size(ty);
+    let size = tables.lines.type_size(ty);
     Value {
         ty,
         repr: Repr::Bytes(Bytes {
@@ -106,13 +109,13 @@ pub fn read_bytes_as_type(
     depth: u64,
     h: At,
 ) -> Result<Value, Refused<Refusal>>
-    requires { TypeRoom (ticket_of tables.now) h.node.0 ty o l.old }
-    ensures { MeetsValue l.old (read_bytes_as_type (ticket_of tables.now) depth storage.0 ty o (at_of h) (counters_in l.old)) l.new result }
+    requires { TypeRoom (ticket_of tables.now.lines) h.node.0 ty o l.old }
+    ensures { MeetsValue l.old (read_bytes_as_type (ticket_of tables.now.lines) depth storage.0 ty o (at_of h) (counters_in l.old)) l.new result }
 {
     if depth == 0 {
         return Err(h.refuse(Refusal::UnsupportedType));
     }
-    let (parts, n) = match tables.type_at(ty) {
+    let (parts, n) = match tables.lines.type_at(ty) {
         TypeKind::Unit => {
             return Ok(Value {
                 ty,
@@ -148,8 +151,8 @@ fn read_parts(
     depth: u64,
     h: At,
 ) -> Result<(), Refused<Refusal>>
-    requires { PartsRoom (ticket_of tables.now) h.node.0 (part_types tables.now.lists.now parts 0 n) o l.old }
-    ensures { MeetsList n l.old (read_fields (ticket_of tables.now) (λ t p. read_bytes_as_type (ticket_of tables.now) depth storage.0 t p) o (part_types tables.now.lists.now parts 0 n) (at_of h) (counters_in l.old)) l.new result }
+    requires { PartsRoom (ticket_of tables.now.lines) h.node.0 (part_types tables.now.lines.lists.now parts 0 n) o l.old }
+    ensures { MeetsList n l.old (read_fields (ticket_of tables.now.lines) (λ t p. read_bytes_as_type (ticket_of tables.now.lines) depth storage.0 t p) o (part_types tables.now.lines.lists.now parts 0 n) (at_of h) (counters_in l.old)) l.new result }
 {
     let mut at = o;
     for i in 0..n {
@@ -158,7 +161,7 @@ fn read_parts(
         l.top += 8;
         let head = read_bytes_as_type(tables, l, storage, ty, at, depth, h)?;
         values::store8(l.stack, top, values::value_words(head));
-        at += tables.type_size(ty);
+        at += tables.lines.type_size(ty);
     }
     Ok(())
 }
@@ -170,8 +173,8 @@ pub fn read_location(
     location: Location,
     h: At,
 ) -> Result<Value, Refused<Refusal>>
-    requires { TypeRoom (ticket_of tables.now) h.node.0 location.ty location.offset l.old }
-    ensures { MeetsValue l.old (read_location (ticket_of tables.now) (location_from location) (at_of h) (counters_in l.old)) l.new result }
+    requires { TypeRoom (ticket_of tables.now.lines) h.node.0 location.ty location.offset l.old }
+    ensures { MeetsValue l.old (read_location (ticket_of tables.now.lines) (location_from location) (at_of h) (counters_in l.old)) l.new result }
 {
     if location.bit {
         return Ok(Value {
@@ -198,8 +201,8 @@ pub fn read_temporary(
     ty: u64,
     h: At,
 ) -> Result<Value, Refused<Refusal>>
-    requires { TypeRoom (ticket_of tables.now) h.node.0 ty 0 l.old }
-    ensures { MeetsValue l.old (read_location (ticket_of tables.now) (location storage.0 ty) (at_of h) (counters_in l.old)) l.new result }
+    requires { TypeRoom (ticket_of tables.now.lines) h.node.0 ty 0 l.old }
+    ensures { MeetsValue l.old (read_location (ticket_of tables.now.lines) (location storage.0 ty) (at_of h) (counters_in l.old)) l.new result }
 {
     let location = Location {
         storage,

@@ -2,11 +2,11 @@
 use Prim.Native.Nat.{ℕ, ◌+◌, ◌-◌, ◌≤◌, ◌<◌}
 use mathlib.Core.Path.{◌≡◌, refl, sym, ap, subst, ◌∙◌}
 use mathlib.Core.Bool.{Bool, true, false}
-use mathlib.Core.List.{List, ◌++◌, append-nil, append_assoc}
+use mathlib.Core.List.{List, ◌++◌, append_assoc}
 use native.Mathlib.Omega.{arith}
 use lib.Dec.{leb}
 use borrow.Author.Tests.{le-leb, lt-leb}
-use lib.ListN.{length, take, drop, get_or, length-append, length-drop, drop_of_length-le}
+use lib.ListN.{length, take, drop, get_or, length-append, length-drop}
 use lib.Seq.{sets, sets-eq, length-sets, length-take-le, take_at, take_all}
 use Rattle.std.specs.Prelude.{Result, Ok, Err}
 use Rattle.std.specs.Result.{IsErrAnd}
@@ -24,7 +24,7 @@ use Rattle.spec.specs.Answer.{ascending, accepted, listing_of, fitted, of_loweri
 use Rattle.spec.specs.Answer as spec-answer
 use Rattle.spec.proofs.CostRoom.{room}
 use Rattle.text.proofs.Copying.{middle_is}
-use Rattle.text.specs.Put.{Put, sat, last, sets_append}
+use Rattle.text.specs.Put.{sat, last, sets_append}
 use Rattle.text.specs.Writes.{Writes, writes_then}
 use Rattle.text.specs.declared.writer.Writer.{Writer}
 use Rattle.tables.specs.declared.Counts.{Counts}
@@ -49,7 +49,7 @@ use Rattle.printing.specs.Marks.{marks_from, narrowed_lines}
 use Rattle.printing.proofs.Laws.{value_printed, marks_ascending}
 use Rattle.lowering.specs.Rooms.{TreeRoom}
 use Rattle.sections.specs.declared.Sections.{Sections}
-use Rattle.sections.specs.Sections.{Ready, Starts, storages_text, narrowed_text, code_text, end_text, front_text, back_text, print_of, end_printed, Printable, Finished, Sectioned, Halves, Measures, ListingPut}
+use Rattle.sections.specs.Sections.{Ready, Starts, narrowed_text, end_text, front_text, back_text, print_of, end_printed, Printable, Finished, Sectioned, Halves, Measures, ListingPut}
 
 -- ---------------------------------------------------------------- tables
 
@@ -67,12 +67,12 @@ module _ (rows lists : List ℕ) (n : Counts) where
   next_is = refl
 
 -- an emitter of nothing yet
-pub starts : (t : code.Tables) {l m : List ℕ} {e : Emitter} {marks stack : MutBor (List ℕ)} → Begins l m t.counts.storages t.counts.next e → Ready (ticket_of t) stack.now
-    → Starts (ticket_of t) (record { out = e; narrowed = marks; stack = stack; top = 0 })
+pub starts : (t : code.Tables) {l m : List ℕ} {e : Emitter} {marks stack : MutBor (List ℕ)} → Begins l m t.lines.counts.storages t.lines.counts.next e → Ready (ticket_of t.lines) stack.now
+    → Starts (ticket_of t.lines) (record { out = e; narrowed = marks; stack = stack; top = 0 })
 starts t b R =
     record {
-      storage = omega (arith, b.storage, storage_count t.rows.now t.lists.now t.counts);
-      temporary = omega (arith, b.temporary, next_is t.rows.now t.lists.now t.counts);
+      storage = omega (arith, b.storage, storage_count t.lines.rows.now t.lines.lists.now t.lines.counts);
+      temporary = omega (arith, b.temporary, next_is t.lines.rows.now t.lines.lists.now t.lines.counts);
       instructions = b.instructions;
       code = b.code_at;
       store = b.store_at;

@@ -21,6 +21,7 @@ use std::mem;
 use tables::Tables;
 use values::{Lowering, Value};
 
+// The limit of that name in line_checks, which this crate does not lean on; another here would not prove.
 const DEPTH_LIMIT: u64 = 64;
 
 const TOO_LONG: Refused<Refusal> = Refused {
@@ -35,24 +36,28 @@ pub struct Sections {
     pub end: usize,
 }
 
-// What a run is lent. Its slices are taken out for the run, and put back behind it: what a slice ends as is known where a struct's own
-// field holds it, and not where a struct within does.
+/// The words lent to lower in: for the instructions, for the storages, a mark for each storage, and for the parts of values.
+// What a slice ends as is known to its lender where a struct's own field holds it, and not where a struct within does (tried without this
+// struct): so a run takes these out, and puts them back behind it. A refused one leaves none, so that they are enough for the tables is
+// asked in each contract, and is no ghost field.
 #[derive(Drop)]
-struct Lent<'a> {
-    code: &'a mut [u8],
-    store: &'a mut [u8],
-    narrowed: &'a mut [u64],
-    stack: &'a mut [u64],
+pub struct Lent<'a> {
+    pub code: &'a mut [u8],
+    pub store: &'a mut [u8],
+    pub narrowed: &'a mut [u64],
+    pub stack: &'a mut [u64],
 }
 
+#[tactic(auto, using(crate::proofs::Laws::node_count, crate::proofs::Laws::root_meets))]
 fn lower_root(tables: &Tables<'_>, l: &mut Lowering<'_>) -> Result<Value, Refused<Refusal>>
-    requires { Starts (ticket_of tables.now) l.old }
-    ensures { MeetsValue l.old (lowered (ticket_of tables.now)) l.new result }
+    requires { Starts (ticket_of tables.now.lines) l.old }
+    ensures { MeetsValue l.old (lowered (ticket_of tables.now.lines)) l.new result }
 {
-    lower_expression(tables, l, tables.counts.nodes - 1, DEPTH_LIMIT)
+    lower_expression(tables, l, tables.lines.counts.nodes - 1, DEPTH_LIMIT)
 }
 
 // Once all is lowered: narrowed storages are printed behind the storages, and the value and the last line behind the instructions.
+#[tactic(auto, using(emission::specs::Appends::writes_long, emission::specs::Appends::writes_at, parts::specs::Records::are_records), unfolding(text::specs::Put::sat))]
 fn finish(
     tables: &Tables<'_>,
     out: &mut Emitter<'_>,
@@ -61,12 +66,12 @@ fn finish(
     top: usize,
     value: Value,
 ) -> Sections
-    requires { Printable tables.now.counts.storages value stack.now top out.old }
-    ensures { Finished tables.now.counts.storages narrowed.now value stack.now top out.old out.new result }
+    requires { Printable tables.now.lines.counts.storages value stack.now top out.old }
+    ensures { Finished tables.now.lines.counts.storages narrowed.now value stack.now top out.old out.new result }
 {
-    let older = tables.counts.storages;
+    let older = tables.lines.counts.storages;
     printing::print_narrowed(&mut out.store, narrowed, older);
-    printing::print_value(&mut out.code, stack, value, 0, top);
+    printing::print_value(&mut out.code, value, &stack[..top]);
     let storages = out.storage - older;
     lir::print_done(&mut out.code, out.instructions, storages, out.temporary);
     let front = out.store.at;
@@ -78,8 +83,8 @@ fn finish(
 
 // Every refusal of lowering, or where the listing's halves end, with as much of them as the slices have room for.
 fn run(tables: &Tables<'_>, lent: &mut Lent<'_>) -> Result<Sections, Refused<Refusal>>
-    requires { (Ready (ticket_of tables.now) lent.old.stack.now) × (tables.now.counts.storages ≤ length lent.old.narrowed.now) × ((i : ℕ) → get_or lent.old.narrowed.now i 0 ≡ 0) }
-    ensures measures { Measures (ticket_of tables.now) lent.new.store.now lent.new.code.now result }
+    requires { (Ready (ticket_of tables.now.lines) lent.old.stack.now) × (tables.now.lines.counts.storages ≤ length lent.old.narrowed.now) × ((i : ℕ) → get_or lent.old.narrowed.now i 0 ≡ 0) }
+    ensures measures { Measures (ticket_of tables.now.lines) lent.new.store.now lent.new.code.now result }
     ensures same { IfOk result (λ _. SameLent lent.old lent.new) }
 {
     let none = Lent {
@@ -95,7 +100,12 @@ fn run(tables: &Tables<'_>, lent: &mut Lent<'_>) -> Result<Sections, Refused<Ref
         stack,
     } = mem::replace(lent, none);
     let mut l = Lowering {
-        out: Emitter::new(code, store, tables.counts.storages, tables.counts.next),
+        out: Emitter::new(
+            code,
+            store,
+            tables.lines.counts.storages,
+            tables.lines.counts.next,
+        ),
         narrowed,
         stack,
         top: 0,
@@ -118,7 +128,7 @@ fn run(tables: &Tables<'_>, lent: &mut Lent<'_>) -> Result<Sections, Refused<Ref
     Ok(m)
 }
 
-// The same over slices.
+// The same over slices: these keep their lengths also where it is refused, and those of a struct don't.
 fn measure(
     tables: &Tables<'_>,
     code: &mut [u8],
@@ -126,8 +136,8 @@ fn measure(
     narrowed: &mut [u64],
     stack: &mut [u64],
 ) -> Result<Sections, Refused<Refusal>>
-    requires { (Ready (ticket_of tables.now) stack.old) × (tables.now.counts.storages ≤ length narrowed.old) × ((i : ℕ) → get_or narrowed.old i 0 ≡ 0) }
-    ensures { Measures (ticket_of tables.now) store.new code.new result }
+    requires { (Ready (ticket_of tables.now.lines) stack.old) × (tables.now.lines.counts.storages ≤ length narrowed.old) × ((i : ℕ) → get_or narrowed.old i 0 ≡ 0) }
+    ensures { Measures (ticket_of tables.now.lines) store.new code.new result }
 {
     let mut lent = Lent {
         code,
@@ -139,6 +149,7 @@ fn measure(
 }
 
 // The listing into a buffer that is long enough, half by half. What was lowered once is not refused.
+#[tactic(auto, using(crate::proofs::Laws::halves_written))]
 fn write(
     tables: &Tables<'_>,
     narrowed: &mut [u64],
@@ -146,19 +157,17 @@ fn write(
     buffer: &mut [u8],
     m: Sections,
 )
-    requires { (Ready (ticket_of tables.now) stack.old) × (tables.now.counts.storages ≤ length narrowed.old) × (Sectioned (ticket_of tables.now) m) × (m.front ≤ m.end) × (m.end ≤ length buffer.old) }
-    ensures { ListingPut (ticket_of tables.now) buffer.old buffer.new }
+    requires { (Ready (ticket_of tables.now.lines) stack.old) × (tables.now.lines.counts.storages ≤ length narrowed.old) × (Sectioned (ticket_of tables.now.lines) m) × (m.front ≤ m.end) × (m.end ≤ length buffer.old) }
+    ensures { ListingPut (ticket_of tables.now.lines) buffer.old buffer.new }
 {
     let Sections { front, end } = m;
-    let mut code = [0; 1];
-    let mut store = [0; 1];
     narrowed.fill(0);
-    let _ = measure(tables, &mut code, &mut buffer[..front], narrowed, stack);
+    let _ = measure(tables, &mut [], &mut buffer[..front], narrowed, stack);
     narrowed.fill(0);
-    let _ = measure(tables, &mut buffer[front..end], &mut store, narrowed, stack);
+    let _ = measure(tables, &mut buffer[front..end], &mut [], narrowed, stack);
 }
 
-// One half behind the other.
+// One half behind the other: two of the library's copies, and what they leave together.
 fn copy_halves(store: &[u8], code: &[u8], buffer: &mut [u8], front: usize, end: usize)
     requires { (front ≤ end) × (end ≤ length buffer.old) × (front ≤ length store.now) × (end - front ≤ length code.now) }
     ensures { buffer.new ≡ sets (sets buffer.old 0 (take front store.now)) front (take (end - front) code.now) }
@@ -168,17 +177,21 @@ fn copy_halves(store: &[u8], code: &[u8], buffer: &mut [u8], front: usize, end: 
 }
 
 /// The listing of what was read, lowered and written, and its length.
+#[tactic(auto, using(crate::proofs::Laws::ready_kept, crate::proofs::Laws::sectioned, crate::proofs::Laws::half_first, crate::proofs::Laws::answer_too_long))]
 pub fn lower_tables(
     tables: &Tables<'_>,
-    code: &mut [u8],
-    store: &mut [u8],
-    narrowed: &mut [u64],
-    stack: &mut [u64],
+    lent: Lent<'_>,
     buffer: &mut [u8],
 ) -> Result<usize, Refused<Refusal>>
-    requires { (Ready (ticket_of tables.now) stack.old) × (tables.now.counts.storages ≤ length narrowed.old) × ((i : ℕ) → get_or narrowed.old i 0 ≡ 0) }
-    ensures { Answers (of_lowering (ticket_of tables.now) (length buffer.old) (lowered (ticket_of tables.now))) buffer.old buffer.new result }
+    requires { (Ready (ticket_of tables.now.lines) lent.stack.now) × (tables.now.lines.counts.storages ≤ length lent.narrowed.now) × ((i : ℕ) → get_or lent.narrowed.now i 0 ≡ 0) }
+    ensures { Answers (of_lowering (ticket_of tables.now.lines) (length buffer.old) (lowered (ticket_of tables.now.lines))) buffer.old buffer.new result }
 {
+    let Lent {
+        code,
+        store,
+        narrowed,
+        stack,
+    } = lent;
     let m = measure(tables, code, store, narrowed, stack)?;
     let end = m.end;
     if buffer.len() < end {

@@ -46,9 +46,9 @@ targets_here T s ty n e = go (eqb ty 0)
     go true = refl
     go false = rw e (targets_bytes s 0 n)
 
-pub size_few : (t : code.Tables) (ty : ℕ) {n : ℕ} → n ≡ size_at t.rows.now t.counts ty → n ≤ 1024
+pub size_few : (t : code.Tables) (ty : ℕ) {n : ℕ} → n ≡ size_at t.lines.rows.now t.lines.counts ty → n ≤ 1024
 unfolding type_size
-size_few t ty e = omega (arith, t.readable.types.size_most ty, size_here t.rows.now t.lists.now t.counts ty)
+size_few t ty e = omega (arith, t.readable.types.size_most ty, size_here t.lines.rows.now t.lines.lists.now t.lines.counts ty)
 
 module _ (T : Tables) (q : BitOperand) (a b ty : ℕ) (ts fs : List ValueOperand) (h : At) (l : Lowering) {e1 : Emitter} {r : Result StorageId Refusal} (x : MeetsTemporary l.out (allocate_temporary T ty) ty e1 r) where
   pub not_placed : {k : Refusal} → r ≡ Err k → selects T q a ts b fs ty h (counters_in l) ≡ refused (refusal_number k) h.line

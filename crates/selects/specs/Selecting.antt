@@ -9,6 +9,7 @@ use Rattle.spec.specs.Select.{select_pieces}
 use Rattle.lir.specs.declared.Bytes.{Bytes}
 use Rattle.lir.specs.Abstract.{tab, byte_at}
 use Rattle.lir.specs.Tab.{spot}
+use Rattle.selects.specs.declared.Targets.{Targets}
 
 -- ---------------------------------------------------------------- where to
 
@@ -24,6 +25,15 @@ target_count false n = n
 -- those of a temporary of type ty
 unfoldable pub targets : ℕ → ℕ → ℕ → List ValueStorage
 targets s ty n = tab (target s (eqb ty 0)) 0 (target_count (eqb ty 0) n)
+
+-- the code's
+abbrev pub target_of : Targets → ℕ → ValueStorage
+target_of (Targets.Bit s) = target s.0 true
+target_of (Targets.Bytes d) = target d.storage.0 false
+
+abbrev pub count_of : Targets → ℕ
+count_of (Targets.Bit s) = 1
+count_of (Targets.Bytes d) = d.count
 
 -- ---------------------------------------------------------------- the steps of a select
 

@@ -15,41 +15,48 @@ ghost use Rattle.parts.specs.Operands.{operand_of};
 ghost use Rattle.parts.specs.Records.{AreRecords, heads_in};
 ghost use Rattle.reads.specs.Reading.{at_of, StepRoom};
 ghost use Rattle.lir.specs.Sound.{Sound};
-ghost use Rattle.selects.specs.Selecting.{target, targets, byte_selected};
+ghost use Rattle.selects.specs.Selecting.{target_of, count_of, targets, byte_selected};
 
 use answers::{Refusal, Refused};
 use emission::Emitter;
-use lir::{BitOperand, ByteStorage, Bytes, InstructionKind, StorageId};
+use lir::{BitOperand, ByteStorage, Bytes, Destinations, InstructionKind, StorageId};
 use parts::{Operand, Operands};
 use reads::At;
 use tables::Tables;
 use values::{Lowering, Repr, Value};
 
-// What a select goes into: a storage that is a bit, or the first bytes of one.
+// What a select goes into: a bit, or the bytes of a temporary.
 #[derive(Clone, Copy)]
-struct Targets {
-    storage: StorageId,
-    bit: bool,
-    count: u64,
+enum Targets {
+    Bit(StorageId),
+    Bytes(Destinations),
+}
+
+impl Targets {
+    ghost use Rattle.selects.specs.Selecting.{count_of};
+
+    fn count(self) -> u64
+        ensures { result ≡ count_of self }
+    {
+        match self {
+            Targets::Bit(_) => 1,
+            Targets::Bytes(to) => to.count,
+        }
+    }
 }
 
 // The whole of a temporary.
 #[tactic(auto, unfolding(crate::specs::Selecting::targets))]
 fn targets_of(storage: StorageId, ty: u64, size: u64) -> Targets
-    ensures is { tab (target result.storage.0 result.bit) 0 result.count ≡ targets storage.0 ty size }
-    ensures few { size ≤ 1024 → result.count ≤ 1024 }
+    ensures is { tab (target_of result) 0 (count_of result) ≡ targets storage.0 ty size }
+    ensures few { size ≤ 1024 → count_of result ≤ 1024 }
 {
-    if ty == 0 {
-        return Targets {
+    match ty {
+        0 => Targets::Bit(storage),
+        _ => Targets::Bytes(Destinations {
             storage,
-            bit: true,
-            count: 1,
-        };
-    }
-    Targets {
-        storage,
-        bit: false,
-        count: size,
+            count: size,
+        }),
     }
 }
 
@@ -64,26 +71,26 @@ fn select_piece(
     t: Operand,
     f: Operand,
 ) -> Option<InstructionKind>
-    ensures is { select_piece (bit_operand_of c) (target to.storage.0 to.bit i) (operand_of t) (operand_of f) ≡ option_map kind_of result }
+    ensures is { select_piece (bit_operand_of c) (target_of to i) (operand_of t) (operand_of f) ≡ option_map kind_of result }
     ensures sound { IfSome result Sound }
 {
-    if to.bit {
-        let (Operand::Bit(x), Operand::Bit(y)) = (t, f) else {
-            return None;
-        };
-        return Some(InstructionKind::SelectBit(to.storage, c, x, y));
+    match (to, t, f) {
+        (Targets::Bit(to), Operand::Bit(x), Operand::Bit(y)) => {
+            Some(InstructionKind::SelectBit(to, c, x, y))
+        }
+        (Targets::Bytes(to), Operand::Byte(x), Operand::Byte(y)) => {
+            let byte = ByteStorage {
+                storage: to.storage,
+                offset: i,
+            };
+            Some(InstructionKind::SelectByte(byte, c, x, y))
+        }
+        _ => None,
     }
-    let (Operand::Byte(x), Operand::Byte(y)) = (t, f) else {
-        return None;
-    };
-    let byte = ByteStorage {
-        storage: to.storage,
-        offset: i,
-    };
-    Some(InstructionKind::SelectByte(byte, c, x, y))
 }
 
-// All destinations, as far as both sides go.
+// All destinations, as far as both sides go. By `next`, and no `zip`: the definition has a clause for the end of each side.
+#[tactic(auto, using(crate::proofs::Laws::rest_all, crate::proofs::Laws::rest_room))]
 fn select_pieces(
     out: &mut Emitter<'_>,
     to: Targets,
@@ -91,10 +98,10 @@ fn select_pieces(
     left: &mut Operands<'_>,
     right: &mut Operands<'_>,
 ) -> Result<(), Refusal>
-    requires { Room to.count out.old }
-    ensures { Meets to.count out.old (select_pieces (bit_operand_of c) (tab (target to.storage.0 to.bit) 0 to.count) left.old right.old) out.new result }
+    requires { Room (count_of to) out.old }
+    ensures { Meets (count_of to) out.old (select_pieces (bit_operand_of c) (tab (target_of to) 0 (count_of to)) left.old right.old) out.new result }
 {
-    for i in 0..to.count {
+    for i in 0..to.count() {
         let Some(x) = left.next() else {
             return Ok(());
         };
@@ -110,23 +117,25 @@ fn select_pieces(
 }
 
 // The first n bytes of both sides.
+#[tactic(auto, using(lir::specs::Tab::length_tab, emission::specs::Emits::room_emitted))]
 fn select_bytes(out: &mut Emitter<'_>, to: StorageId, n: u64, c: BitOperand, t: Bytes, f: Bytes)
     requires { (Small t) × (Small f) × (Room n out.old) }
     ensures { Emits out.old (tab (byte_selected to.0 (bit_operand_of c) t f) 0 n) out.new }
 {
-    for i in 0..n {
+    out.emit_each(n, |i| {
         let byte = ByteStorage {
             storage: to,
             offset: i,
         };
         let (x, y) = (lir::byte_at(t, i), lir::byte_at(f, i));
-        out.emit(InstructionKind::SelectByte(byte, c, x, y));
-    }
+        InstructionKind::SelectByte(byte, c, x, y)
+    });
 }
 
 // ---------------------------------------------------------------- two values
 
 // All destinations. Two values of bytes alone have no records to look for.
+#[tactic(auto, using(crate::proofs::Laws::pieces_bytes, crate::proofs::Laws::bytes_alone, crate::proofs::Laws::shortest))]
 fn select_values(
     out: &mut Emitter<'_>,
     to: Targets,
@@ -136,11 +145,11 @@ fn select_values(
     f: Value,
     second: &[u64],
 ) -> Result<(), Refusal>
-    requires { (Sound_value t) × (Sound_value f) × (AreRecords first.now) × (AreRecords second.now) × (Room to.count out.old) }
-    ensures { Meets to.count out.old (select_pieces (bit_operand_of c) (tab (target to.storage.0 to.bit) 0 to.count) (operands_of (head_of t ∷ heads_in first.now)) (operands_of (head_of f ∷ heads_in second.now))) out.new result }
+    requires { (Sound_value t) × (Sound_value f) × (AreRecords first.now) × (AreRecords second.now) × (Room (count_of to) out.old) }
+    ensures { Meets (count_of to) out.old (select_pieces (bit_operand_of c) (tab (target_of to) 0 (count_of to)) (operands_of (head_of t ∷ heads_in first.now)) (operands_of (head_of f ∷ heads_in second.now))) out.new result }
 {
-    if !to.bit && first.is_empty() && second.is_empty() {
-        if let (Repr::Bytes(x), Repr::Bytes(y)) = (t.repr, f.repr) {
+    if first.is_empty() && second.is_empty() {
+        if let (Targets::Bytes(to), Repr::Bytes(x), Repr::Bytes(y)) = (to, t.repr, f.repr) {
             select_bytes(out, to.storage, to.count.min(x.total).min(y.total), c, x, y);
             return Ok(());
         }
@@ -162,10 +171,10 @@ pub fn lower_select(
     end: usize,
     h: At,
 ) -> Result<Value, Refused<Refusal>>
-    requires { (StepRoom (ticket_of tables.now) h.node.0 h.ty l.old) × (Sound_value t) × (Sound_value f) × (Stands l.old.stack.now l.old.top middle) × (Stands l.old.stack.now middle end) × (l.old.top ≤ middle) × (middle ≤ end) × (end ≤ length l.old.stack.now) }
-    ensures { MeetsValue l.old (selects (ticket_of tables.now) (bit_operand_of c) t.ty (operands_of (head_of t ∷ heads l.old.stack.now l.old.top middle)) f.ty (operands_of (head_of f ∷ heads l.old.stack.now middle end)) h.ty (at_of h) (counters_in l.old)) l.new result }
+    requires { (StepRoom (ticket_of tables.now.lines) h.node.0 h.ty l.old) × (Sound_value t) × (Sound_value f) × (Stands l.old.stack.now l.old.top middle) × (Stands l.old.stack.now middle end) × (l.old.top ≤ middle) × (middle ≤ end) × (end ≤ length l.old.stack.now) }
+    ensures { MeetsValue l.old (selects (ticket_of tables.now.lines) (bit_operand_of c) t.ty (operands_of (head_of t ∷ heads l.old.stack.now l.old.top middle)) f.ty (operands_of (head_of f ∷ heads l.old.stack.now middle end)) h.ty (at_of h) (counters_in l.old)) l.new result }
 {
-    let size = tables.type_size(h.ty);
+    let size = tables.lines.type_size(h.ty);
     let to = l
         .out
         .allocate_temporary(h.ty, size)

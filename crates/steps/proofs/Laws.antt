@@ -1,11 +1,12 @@
 -- What the steps leave.
-use Rattle.std.specs.Prelude.{◌≡◌, refl, List, ℕ, zero, suc, ◌+◌, ◌-◌, ◌/◌, ◌^◌, ◌≤◌, ◌<◌, Option, None, Some, Result, Ok}
+use Rattle.std.specs.Prelude.{◌≡◌, refl, List, ℕ, zero, suc, ◌+◌, ◌-◌, ◌/◌, ◌^◌, ◌≤◌, ◌<◌, Option, None, Some, Result, Ok, IfOk}
 use Rattle.std.specs.Option.{option_map}
 use Rattle.std.proofs.Common.{sym, ap, subst, ◌∙◌, arith}
 use native.Mathlib.Nat.{div-div-eq-div-mul, pow-suc, div-one}
 use borrow.Author.Tests.{lt-ltb, le-leb, lt-leb}
 use lib.ListN.{get_or-eq_default}
 use Rattle.answers.specs.declared.Refusal.{Refusal}
+use Rattle.spec.specs.Limits.{offset_limit}
 use Rattle.spec.specs.Hir as hir
 use Rattle.spec.specs.Hir.{Place, variable, static, field, element, byte_offset, null_pointer}
 use Rattle.spec.specs.Ticket as ticket
@@ -23,6 +24,7 @@ use Rattle.lir.specs.declared.Source.{Source}
 use Rattle.emission.specs.Forms.{HasWidth, comparing}
 use Rattle.tables.specs.declared.TypeKind.{TypeKind}
 use Rattle.tables.specs.declared.lookups.Tables as code
+use Rattle.tables.specs.declared.lookups.Lines as code-lines
 use Rattle.tables.specs.Ticket.{ticket_of}
 use Rattle.tables.specs.Tables.{type_kind_at, type_word, type_args, size_at}
 use Rattle.tables.proofs.Laws.{Looks, looks_here, size_here}
@@ -55,7 +57,7 @@ constant_meets l ty v n k =
     leaf_meets l (constant_of ty v n) (value ty (bytes_value (integer_bytes v n)))
     (ap (λ (z : List ByteOperand). record { ty = ty; shape = bytes_shape z }) (constant_bytes v n)) (record { reach_most = omega arith; total_most = omega arith }) refl
 
-module _ (t : code.Tables) (v ty : ℕ) (h : hir.At) where
+module _ (t : code-lines.Lines) (v ty : ℕ) (h : hir.At) where
   pub integer_meets : (l : Lowering) {size : ℕ} → size ≡ size_at t.rows.now t.counts ty → size ≤ 16 → MeetsValue l (lower_integer (ticket_of t) v ty h (counters_in l)) l (Ok (constant_of ty v size))
   unfolding lower_integer require ◌>>◌
   integer_meets l {size} e k = let g : type_size (ticket_of t) ty ≡ size = size_here t.rows.now t.lists.now t.counts ty ∙ sym e in rw (g, le-leb size 16 k) (constant_meets l ty v size k)
@@ -97,7 +99,7 @@ looks_width =
       opaque = λ xs. refl;
     }
 
-pub has_width : (t : code.Tables) (ty : ℕ) {o : Option ℕ} → width_of (type_word (type_kind_at t.rows.now t.lists.now t.counts ty)) (type_args t.lists.now (type_kind_at t.rows.now t.lists.now t.counts ty)) ≡ o
+pub has_width : (t : code-lines.Lines) (ty : ℕ) {o : Option ℕ} → width_of (type_word (type_kind_at t.rows.now t.lists.now t.counts ty)) (type_args t.lists.now (type_kind_at t.rows.now t.lists.now t.counts ty)) ≡ o
     → HasWidth (ticket_of t) ty o
 has_width t ty e = record { is = looks_here t.rows.now t.lists.now t.counts looks_width ty ∙ e }
 
@@ -173,12 +175,14 @@ resolve_typed T (field p i) ty = typed_then _ _ (λ b. typed_then _ _ (λ f. typ
 resolve_typed T (element p e) ty = typed_then _ _ (λ b. typed_then _ _ (λ f. typed_next _ _ (typed_next _ _ (record { is = λ h c. refl }))))
 resolve_typed T (byte_offset p e) ty = typed_then _ _ (λ b. typed_then _ _ (λ n. typed_next _ _ (record { is = λ h c. refl })))
 
-module _ (t : code.Tables) (d p ty : ℕ) {q : Result Loc Refusal} {x : Loc} (a : location_at (ticket_of t) d p ty ≡ outcome_of location_from q) (e : q ≡ Ok x) where
+module _ (t : code.Tables) (d p ty : ℕ) {q : Result Loc Refusal} {x : Loc} (a : location_at (ticket_of t.lines) d p ty ≡ outcome_of location_from q) (e : q ≡ Ok x) where
   found_type : x.ty ≡ ty
   found_type =
       let c : monad.Counters = record { storage = 0; temporary = 0 } in
-      let k : resolve_place (ticket_of t) (place_at d (ticket_of t) p) ty nowhere c ≡ done (location_from x) c nothing = rw (a, e) in
-      subst (λ (z : Outcome Location). TypedCase ty z) k ((resolve_typed (ticket_of t) (place_at d (ticket_of t) p) ty).is nowhere c)
+      let k : resolve_place (ticket_of t.lines) (place_at d (ticket_of t.lines) p) ty nowhere c ≡ done (location_from x) c nothing = rw (a, e) in
+      subst (λ (z : Outcome Location). TypedCase ty z) k ((resolve_typed (ticket_of t.lines) (place_at d (ticket_of t.lines) p) ty).is nowhere c)
 
-  pub room_found : {n : ℕ} {l : Lowering} → TypeRoom (ticket_of t) n ty 0 l → TypeRoom (ticket_of t) n x.ty x.offset l
-  room_found k = rw found_type (record { node = k.node; room = k.room; top = k.top; reach = omega (arith, x.offset_most, t.readable.types.size_most ty) })
+  pub room_found : {n : ℕ} {l : Lowering} → IfOk q (λ z. z.offset ≤ offset_limit) → TypeRoom (ticket_of t.lines) n ty 0 l → TypeRoom (ticket_of t.lines) n x.ty x.offset l
+  room_found {n} {l} near k =
+      let o : x.offset ≤ offset_limit = rw e at near in
+      rw found_type (record { node = k.node; room = k.room; top = k.top; reach = omega (arith, o, t.readable.types.size_most ty) })

@@ -19,7 +19,7 @@ use Rattle.emission.specs.declared.emitter.Emitter.{Emitter}
 use Rattle.emission.specs.Emits.{Emits, Allocates}
 use Rattle.emission.specs.Does.{Does, out, does_allocating}
 use Rattle.emission.specs.Temporaries.{location, place_sized}
-use Rattle.tables.specs.declared.lookups.Tables as code
+use Rattle.tables.specs.declared.lookups.Lines as code
 use Rattle.tables.specs.Ticket.{ticket_of}
 use Rattle.tables.specs.Tables.{owner_at}
 use Rattle.tables.proofs.Laws.{owner_here}
@@ -105,20 +105,20 @@ module _ {l : Lowering} {e2 : Emitter} (T : Tables) (R : TypesRight T) (k o : �
   narrowing true e = rw (e, d.is h) (record { shown = (pointer_shown id, left_marked (k ∷ []) (left_does {l = l} h g d)) })
   narrowing false e = rw (e, d.is h) (record { shown = (pointer_shown id, left_marked [] (left_does {l = l} h g d)) })
 
-pub address_meets : {l : Lowering} {e1 e2 : Emitter} {ms : List ℕ} (t : code.Tables) (k o : ℕ) (b : Bool) (id : StorageId) (h : hir.At) → h.node ≡ l.out.node.0 → b ≡ false
+pub address_meets : {l : Lowering} {e1 e2 : Emitter} {ms : List ℕ} (t : code.Lines) (k o : ℕ) (b : Bool) (id : StorageId) (h : hir.At) → TypesRight (ticket_of t) → h.node ≡ l.out.node.0 → b ≡ false
     → ms ≡ marked l.narrowed.now (narrowed_by (is_one (owner_at t.rows.now t.lists.now t.counts k)) k)
     → Allocates l.out (allocate_sized 2) id.0 e1 → Emits e1 (address_of (byte_of id.0 0) (byte_of id.0 1) k o ∷ []) e2
     → MeetsValue l (materialize_location_address (ticket_of t) k b o h (counters_in l)) (with_marks (with_out l e2) ms) (Ok (pointer_in id))
-address_meets {l} t k o b id h g f q a c =
+address_meets {l} t k o b id h R g f q a c =
     rw (f, q)
-    (narrowing {l = l} (ticket_of t) t.readable.types k o id h g (filled_does (ticket_of t) t.readable.types (λ x y. address_of x y k o) id.0 a c)
+    (narrowing {l = l} (ticket_of t) R k o id h g (filled_does (ticket_of t) R (λ x y. address_of x y k o) id.0 a c)
     (is_one (owner_at t.rows.now t.lists.now t.counts k)) (ap is_one (owner_here t.rows.now t.lists.now t.counts k)))
 
 pub address_refused : (T : Tables) (k o : ℕ) (b : Bool) (h : hir.At) (c : monad.Counters) → b ≡ true → materialize_location_address T k b o h c ≡ refused 21 h.line
 unfolding materialize_location_address require ◌>>◌
 address_refused T k o b h c e = rw e
 
-module _ (l : List ℕ) (t : code.Tables) (s : ℕ) {w : ℕ} (e : w ≡ owner_at t.rows.now t.lists.now t.counts s) where
+module _ (l : List ℕ) (t : code.Lines) (s : ℕ) {w : ℕ} (e : w ≡ owner_at t.rows.now t.lists.now t.counts s) where
   pub narrow_in : w ≡ 1 → set l s 1 ≡ marked l (narrowed_by (is_one (owner_at t.rows.now t.lists.now t.counts s)) s)
   unfolding marked
   narrow_in q = let g : owner_at t.rows.now t.lists.now t.counts s ≡ 1 = sym e ∙ q in rw g

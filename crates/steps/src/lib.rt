@@ -32,10 +32,12 @@ use answers::{Refusal, Refused};
 use emission::Emitter;
 use lir::{BitOperand, ByteStorage, Bytes, CompareOp, Destinations, Purpose, Source, StorageId};
 use reads::At;
-use tables::{Tables, TypeKind};
+use tables::{Lines, Tables, TypeKind};
 use values::{Lowering, Repr, Value};
 
 // ---------------------------------------------------------------- what a value's head holds
+
+// The Rust's `value_bytes` and `value_bit`. One function for both would be handed this match as a closure, and nothing would be left of it.
 
 /// A value's bytes, if it has such.
 pub fn value_bytes(v: Value) -> Option<Bytes>
@@ -75,10 +77,11 @@ fn constant(ty: u64, v: u64, size: u64) -> Value
 }
 
 /// A constant has 16 bytes at most.
-pub fn lower_integer(tables: &Tables<'_>, v: u64, ty: u64, h: At) -> Result<Value, Refused<Refusal>>
-    ensures { (l : State) → MeetsValue l (lower_integer (ticket_of tables.now) v ty (at_of h) (counters_in l)) l result }
+#[tactic(auto, using(crate::proofs::Asks::told_stops, crate::proofs::Laws::integer_meets, crate::proofs::Laws::integer_refused))]
+pub fn lower_integer(lines: &Lines<'_>, v: u64, ty: u64, h: At) -> Result<Value, Refused<Refusal>>
+    ensures { (l : State) → MeetsValue l (lower_integer (ticket_of lines.now) v ty (at_of h) (counters_in l)) l result }
 {
-    let size = tables.type_size(ty);
+    let size = lines.type_size(ty);
     if 16 < size {
         return Err(h.refuse(Refusal::LongInteger));
     }
@@ -102,10 +105,11 @@ pub fn lower_bool(v: u64, h: At) -> Value
 
 // ---------------------------------------------------------------- widths
 
-pub fn integer_width(tables: &Tables<'_>, ty: u64) -> Option<u64>
-    ensures { HasWidth (ticket_of tables.now) ty result }
+#[tactic(auto, using(crate::proofs::Laws::has_width, crate::proofs::Laws::no_width))]
+pub fn integer_width(lines: &Lines<'_>, ty: u64) -> Option<u64>
+    ensures { HasWidth (ticket_of lines.now) ty result }
 {
-    match tables.type_at(ty) {
+    match lines.type_at(ty) {
         TypeKind::Bits(n) => Some(n),
         TypeKind::Pointer => Some(16),
         _ => None,
@@ -114,10 +118,10 @@ pub fn integer_width(tables: &Tables<'_>, ty: u64) -> Option<u64>
 
 /// How many bits of its last byte a type has; 0 where it has all of them. A pointer's width is a multiple of 8.
 pub fn odd_bits(tables: &Tables<'_>, ty: u64) -> u64
-    ensures is { odd_bits (ticket_of tables.now) ty ≡ result }
+    ensures is { odd_bits (ticket_of tables.now.lines) ty ≡ result }
     ensures few { result < 8 }
 {
-    integer_width(tables, ty).map_or(0, |width| width % 8)
+    integer_width(&tables.lines, ty).map_or(0, |width| width % 8)
 }
 
 // ---------------------------------------------------------------- a new temporary, filled by others
@@ -129,12 +133,12 @@ pub fn byte_temporary(
     h: At,
 ) -> Result<Destinations, Refused<Refusal>>
     requires { Room 1 out.old }
-    ensures { MeetsNew (ticket_of tables.now) (at_of h) out.old out.new result }
+    ensures { MeetsNew (ticket_of tables.now.lines) (at_of h) out.old out.new result }
 {
     if h.ty == 0 {
         return Err(h.refuse(Refusal::UnsupportedExpression));
     }
-    let count = tables.type_size(h.ty);
+    let count = tables.lines.type_size(h.ty);
     let storage = out
         .allocate_temporary(h.ty, count)
         .map_err(|r| h.refuse(r))?;
@@ -148,8 +152,8 @@ pub fn masked(
     d: Destinations,
     h: At,
 ) -> Result<Value, Refused<Refusal>>
-    requires { (d.count ≡ type_size (ticket_of tables.now) h.ty) × (RoomFor 1026 (ticket_of tables.now) (at_of h) l.old) }
-    ensures { MeetsValue l.old (masked (ticket_of tables.now) (location d.storage.0 h.ty) (at_of h) (counters_in l.old)) l.new result }
+    requires { (d.count ≡ type_size (ticket_of tables.now.lines) h.ty) × (RoomFor 1026 (ticket_of tables.now.lines) (at_of h) l.old) }
+    ensures { MeetsValue l.old (masked (ticket_of tables.now.lines) (location d.storage.0 h.ty) (at_of h) (counters_in l.old)) l.new result }
 {
     let odd = odd_bits(tables, h.ty);
     l.out.mask_location(d, odd);
@@ -170,47 +174,48 @@ fn bool_value(id: StorageId) -> Value
 
 // Whether a number is not 0, as a new bit.
 fn not_zero(
-    tables: &Tables<'_>,
+    lines: &Lines<'_>,
     l: &mut Lowering<'_>,
     purpose: Purpose,
     v: Value,
     h: At,
 ) -> Result<StorageId, Refused<Refusal>>
     requires { (Sound_value v) × (Room 2 l.old.out) }
-    ensures { h.node.0 ≡ l.old.out.node.0 → MeetsStorage l.old (not_zero (ticket_of tables.now) (purpose_of purpose) (flat_of (head_of v)) (at_of h) (counters_in l.old)) l.new result }
+    ensures { h.node.0 ≡ l.old.out.node.0 → MeetsStorage l.old (not_zero (ticket_of lines.now) (purpose_of purpose) (flat_of (head_of v)) (at_of h) (counters_in l.old)) l.new result }
 {
-    let width = integer_width(tables, v.ty).ok_or(h.refuse(Refusal::UnsupportedType))?;
+    let width = integer_width(lines, v.ty).ok_or(h.refuse(Refusal::UnsupportedType))?;
     let number = value_bytes(v).ok_or(h.refuse(Refusal::UnsupportedExpression))?;
     Ok(l.out.not_zero(purpose, width, number))
 }
 
 /// A value as a bit: its own, or whether it is not 0.
+#[tactic(auto, using(values::specs::Laws::left_none, crate::proofs::Asks::shows_stops), unfolding(spec::specs::Conversions::value_as_bit))]
 pub fn value_as_bit(
-    tables: &Tables<'_>,
+    lines: &Lines<'_>,
     l: &mut Lowering<'_>,
     v: Value,
     h: At,
 ) -> Result<BitOperand, Refused<Refusal>>
     requires { (Sound_value v) × (Room 2 l.old.out) }
-    ensures { h.node.0 ≡ l.old.out.node.0 → MeetsBit l.old (value_as_bit (ticket_of tables.now) (flat_of (head_of v)) (at_of h) (counters_in l.old)) l.new result }
+    ensures { h.node.0 ≡ l.old.out.node.0 → MeetsBit l.old (value_as_bit (ticket_of lines.now) (flat_of (head_of v)) (at_of h) (counters_in l.old)) l.new result }
 {
     if let Some(b) = value_bit(v) {
         return Ok(b);
     }
-    let id = not_zero(tables, l, Purpose::Condition, v, h)?;
+    let id = not_zero(lines, l, Purpose::Condition, v, h)?;
     Ok(BitOperand::Storage(id))
 }
 
 pub fn integer_to_bool(
-    tables: &Tables<'_>,
+    lines: &Lines<'_>,
     l: &mut Lowering<'_>,
     v: Value,
     h: At,
 ) -> Result<Value, Refused<Refusal>>
     requires { (Sound_value v) × (Room 2 l.old.out) }
-    ensures { h.node.0 ≡ l.old.out.node.0 → MeetsValue l.old (integer_to_bool (ticket_of tables.now) (flat_of (head_of v)) (at_of h) (counters_in l.old)) l.new result }
+    ensures { h.node.0 ≡ l.old.out.node.0 → MeetsValue l.old (integer_to_bool (ticket_of lines.now) (flat_of (head_of v)) (at_of h) (counters_in l.old)) l.new result }
 {
-    let id = not_zero(tables, l, Purpose::IntegerToBoolean, v, h)?;
+    let id = not_zero(lines, l, Purpose::IntegerToBoolean, v, h)?;
     Ok(bool_value(id))
 }
 
@@ -240,7 +245,7 @@ pub fn compare_op(op: u64) -> Option<CompareOp>
 
 /// The width is looked at before the operands, and the operator last.
 pub fn lower_compare(
-    tables: &Tables<'_>,
+    lines: &Lines<'_>,
     l: &mut Lowering<'_>,
     op: u64,
     left: Value,
@@ -248,9 +253,9 @@ pub fn lower_compare(
     h: At,
 ) -> Result<Value, Refused<Refusal>>
     requires { (Sound_value left) × (Sound_value right) × (Room 2 l.old.out) }
-    ensures { h.node.0 ≡ l.old.out.node.0 → MeetsValue l.old (lower_compare (ticket_of tables.now) (ticket.compare_op op) (flat_of (head_of left)) (flat_of (head_of right)) (at_of h) (counters_in l.old)) l.new result }
+    ensures { h.node.0 ≡ l.old.out.node.0 → MeetsValue l.old (lower_compare (ticket_of lines.now) (ticket.compare_op op) (flat_of (head_of left)) (flat_of (head_of right)) (at_of h) (counters_in l.old)) l.new result }
 {
-    let width = integer_width(tables, left.ty).ok_or(h.refuse(Refusal::UnsupportedType))?;
+    let width = integer_width(lines, left.ty).ok_or(h.refuse(Refusal::UnsupportedType))?;
     let a = value_bytes(left).ok_or(h.refuse(Refusal::UnsupportedExpression))?;
     let b = value_bytes(right).ok_or(h.refuse(Refusal::UnsupportedExpression))?;
     let op = compare_op(op).ok_or(h.refuse(Refusal::UnsupportedExpression))?;
@@ -268,8 +273,8 @@ pub fn lower_read(
     ty: u64,
     h: At,
 ) -> Result<Value, Refused<Refusal>>
-    requires { TypeRoom (ticket_of tables.now) h.node.0 ty 0 l.old }
-    ensures { MeetsValue l.old (lower_read (ticket_of tables.now) (place_at depth (ticket_of tables.now) p) ty (at_of h) (counters_in l.old)) l.new result }
+    requires { TypeRoom (ticket_of tables.now.lines) h.node.0 ty 0 l.old }
+    ensures { MeetsValue l.old (lower_read (ticket_of tables.now.lines) (place_at depth (ticket_of tables.now.lines) p) ty (at_of h) (counters_in l.old)) l.new result }
 {
     let found = places::resolve_place(tables, depth, p, ty).map_err(|r| h.refuse(r))?;
     reads::read_location(tables, l, found, h)
@@ -304,10 +309,11 @@ pub fn lower_function_address(l: &mut Lowering<'_>, f: u64) -> Value
 }
 
 // Marks a storage of the function's own.
-fn narrow(tables: &Tables<'_>, narrowed: &mut [u64], s: StorageId)
-    ensures { narrowed.new ≡ marked narrowed.old (narrowed_by (is_one (owner_at tables.now.rows.now tables.now.lists.now tables.now.counts s.0)) s.0) }
+#[tactic(auto, using(crate::proofs::Pointers::narrow_in, crate::proofs::Pointers::narrow_out, crate::proofs::Pointers::narrow_not))]
+fn narrow(lines: &Lines<'_>, narrowed: &mut [u64], s: StorageId)
+    ensures { narrowed.new ≡ marked narrowed.old (narrowed_by (is_one (owner_at lines.now.rows.now lines.now.lists.now lines.now.counts s.0)) s.0) }
 {
-    if tables.storage_owner(s.0) == 1 {
+    if lines.storage_owner(s.0) == 1 {
         let at = s.0 as usize;
         if at < narrowed.len() {
             narrowed[at] = 1;
@@ -317,7 +323,7 @@ fn narrow(tables: &Tables<'_>, narrowed: &mut [u64], s: StorageId)
 
 // The address of byte o of a storage, in a new pointer; a bit has none.
 fn storage_address(
-    tables: &Tables<'_>,
+    lines: &Lines<'_>,
     l: &mut Lowering<'_>,
     storage: StorageId,
     bit: bool,
@@ -325,12 +331,12 @@ fn storage_address(
     h: At,
 ) -> Result<Value, Refused<Refusal>>
     requires { Room 2 l.old.out }
-    ensures { h.node.0 ≡ l.old.out.node.0 → MeetsValue l.old (materialize_location_address (ticket_of tables.now) storage.0 bit o (at_of h) (counters_in l.old)) l.new result }
+    ensures { TypesRight (ticket_of lines.now) → h.node.0 ≡ l.old.out.node.0 → MeetsValue l.old (materialize_location_address (ticket_of lines.now) storage.0 bit o (at_of h) (counters_in l.old)) l.new result }
 {
     if bit {
         return Err(h.refuse(Refusal::InvalidPlace));
     }
-    narrow(tables, l.narrowed, storage);
+    narrow(lines, l.narrowed, storage);
     let pointer = addressing::allocate_pointer(&mut l.out);
     addressing::address_of(&mut l.out, pointer, storage, o);
     Ok(pointer_value(pointer))
@@ -338,17 +344,17 @@ fn storage_address(
 
 /// The static's own offset is not added.
 pub fn lower_static_address(
-    tables: &Tables<'_>,
+    lines: &Lines<'_>,
     l: &mut Lowering<'_>,
     k: u64,
     o: u64,
     h: At,
 ) -> Result<Value, Refused<Refusal>>
     requires { Room 2 l.old.out }
-    ensures { h.node.0 ≡ l.old.out.node.0 → MeetsValue l.old (lower_static_address (ticket_of tables.now) k o (at_of h) (counters_in l.old)) l.new result }
+    ensures { TypesRight (ticket_of lines.now) → h.node.0 ≡ l.old.out.node.0 → MeetsValue l.old (lower_static_address (ticket_of lines.now) k o (at_of h) (counters_in l.old)) l.new result }
 {
-    let p = tables.static_at(k).ok_or(h.refuse(Refusal::UnknownPlace))?;
-    storage_address(tables, l, StorageId(p.storage), p.bit == 1, o, h)
+    let p = lines.static_at(k).ok_or(h.refuse(Refusal::UnknownPlace))?;
+    storage_address(lines, l, StorageId(p.storage), p.bit == 1, o, h)
 }
 
 /// The address that place line p leads to.
@@ -360,8 +366,8 @@ pub fn lower_address_of(
     h: At,
 ) -> Result<Value, Refused<Refusal>>
     requires { Room 2 l.old.out }
-    ensures { h.node.0 ≡ l.old.out.node.0 → MeetsValue l.old (lower_address_of (ticket_of tables.now) (place_at depth (ticket_of tables.now) p) (at_of h) (counters_in l.old)) l.new result }
+    ensures { h.node.0 ≡ l.old.out.node.0 → MeetsValue l.old (lower_address_of (ticket_of tables.now.lines) (place_at depth (ticket_of tables.now.lines) p) (at_of h) (counters_in l.old)) l.new result }
 {
     let base = places::resolve_addressed_place(tables, depth, p).map_err(|r| h.refuse(r))?;
-    storage_address(tables, l, base.storage, base.bit, base.offset, h)
+    storage_address(&tables.lines, l, base.storage, base.bit, base.offset, h)
 }

@@ -394,3 +394,29 @@ module _ (rows lists : List ℕ) (c : Counts) (r : Readable (tables_of rows list
         places = omega (arith, r.place_count, length_tab (place_line rows lists c) 0 c.places);
         nodes = omega (arith, r.node_count, length_tab (node_line rows lists c) 0 c.nodes);
       }
+
+-- each count, as it is needed
+module _ (rows lists : List ℕ) (c : Counts) (r : Readable (tables_of rows lists c)) where
+  pub few_types : c.types ≤ 4294967296
+  few_types = (readable_sized rows lists c r).types
+
+  pub few_storages : c.storages ≤ 4294967296
+  few_storages = (readable_sized rows lists c r).storages
+
+  pub few_variables : c.variables ≤ 4294967296
+  few_variables = (readable_sized rows lists c r).variables
+
+  pub few_statics : c.statics ≤ 4294967296
+  few_statics = (readable_sized rows lists c r).statics
+
+  pub few_places : c.places ≤ 4294967296
+  few_places = (readable_sized rows lists c r).places
+
+  pub few_nodes : c.nodes ≤ 4294967296
+  few_nodes = (readable_sized rows lists c r).nodes
+
+pub ruleset few_lines = (few_types, few_storages, few_variables, few_statics, few_places, few_nodes)
+
+pub ruleset cells = (cell_in, cell_out)
+
+pub ruleset args = (arg_in, arg_out)

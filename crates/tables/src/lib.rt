@@ -9,10 +9,11 @@ ghost use Rattle.tables.specs.Tables.{cell, run, numbers_at, type_kind, type_kin
 
 mod lookups;
 
-pub use lookups::Tables;
+pub use lookups::{Lines, Tables};
 
-// How many lines of each kind there are, the numbers in use of the lists, and the state of reading.
-#[derive(Clone, Copy, Debug, PartialEq, Eq)]
+// How many lines of each kind there are, the numbers in use of the lists, and the state of reading. `stage` is 0 before the first line, else
+// one more than the last line's rank: a number as in the definitions (`in_order`), which an `Option` would have to be turned into.
+#[derive(Clone, Copy, Debug, Default, PartialEq, Eq)]
 pub struct Counts {
     pub function: u64,
     pub next: u64,
@@ -43,7 +44,7 @@ pub enum TypeKind {
     Opaque(u64),
 }
 
-// A variable or a static.
+// A variable or a static. `bit` is the row's number, any one: that it is 0 or 1 is what reading finds, and no fact of a row.
 #[derive(Clone, Copy, Debug, PartialEq, Eq)]
 pub struct Placed {
     pub storage: u64,
@@ -62,7 +63,8 @@ pub enum PlaceKind {
     Offset(u64, u64),
 }
 
-// A node's word and numbers. Aggregate: where its parts begin in the lists, and how many they are.
+// A node's word and numbers. Aggregate: where its parts begin in the lists, and how many they are. An operator stays the row's number: the
+// definitions' tables have it so (`node_args`), in range or not, and an enum would hold only those in range.
 #[derive(Clone, Copy, Debug, PartialEq, Eq)]
 pub enum NodeKind {
     Bool(u64),
@@ -91,25 +93,25 @@ pub enum NodeKind {
 pub fn word(s: &[u64], i: usize) -> u64
     ensures { result ≡ get_or s.now i 0 }
 {
-    if i < s.len() { s[i] } else { 0 }
+    s.get(i).copied().unwrap_or(0)
 }
 
-// Word i of a list that begins at `start`. It is told where the sum is past the end before it could wrap.
+// `lists` and a place in it, here and below: all lines' numbers stand in one lent slice, since there is no heap, and a row holds where a line's
+// start and how many they are. These may lead past the slice's end, so no part of it is taken.
+//
+// Word i of a list that begins at `start`. A sum that would wrap is past the end.
 pub fn list_at(lists: &[u64], start: u64, i: u64) -> u64
     ensures { result ≡ get_or lists.now (start + i) 0 }
 {
-    let at = start as usize;
-    let step = i as usize;
-    if lists.len() <= at {
-        return 0;
+    match start.checked_add(i) {
+        Some(at) => word(lists, at as usize),
+        None => 0,
     }
-    if lists.len() - at <= step {
-        return 0;
-    }
-    lists[at + step]
 }
 
-// Word j of row k of the `count` rows of a kind, whose rows are every sixth from `base` on; `other` past the last.
+// Word j of row k of the `count` rows of a kind, whose rows are every sixth from `base` on; `other` past the last. `base + count` is small
+// enough for a row's place to be worked out. A struct of rows, base and count would be made for each look-up, five lines in place of one.
+#[tactic(auto, using(crate::proofs::Laws::cells))]
 pub fn cell(s: &[u64], base: u64, count: u64, k: u64, j: u64, other: u64) -> u64
     requires { (j < 6) × (base + count ≤ 1099511627776) }
     ensures { result ≡ cell s.now base count k j other }
@@ -123,6 +125,7 @@ pub fn cell(s: &[u64], base: u64, count: u64, k: u64, j: u64, other: u64) -> u64
 }
 
 // Number i of the `count` that start at a place of the lists, 0 past them.
+#[tactic(auto, using(crate::proofs::Laws::args))]
 pub fn arg(lists: &[u64], start: u64, count: u64, i: u64) -> u64
     ensures { result ≡ arg_of (run lists.now start count) i }
 {
@@ -133,6 +136,7 @@ pub fn arg(lists: &[u64], start: u64, count: u64, i: u64) -> u64
 }
 
 // Number i of row k of the `count` rows from `base` on.
+#[tactic(auto, unfolding(crate::specs::Tables::numbers_at))]
 pub fn number(s: &[u64], lists: &[u64], base: u64, count: u64, k: u64, i: u64) -> u64
     requires { base + count ≤ 1099511627776 }
     ensures { result ≡ arg_of (numbers_at s.now lists.now base count k) i }
@@ -142,6 +146,8 @@ pub fn number(s: &[u64], lists: &[u64], base: u64, count: u64, k: u64, i: u64) -
     arg(lists, start, n, i)
 }
 
+// A kind stands as a number in a row of lent words, so types, places and nodes have a match from numbers each.
+//
 // The type that a word's number stands for: n numbers from `start` on, a and b the first two of them.
 #[tactic(auto, using(crate::proofs::Laws::type_kind_past), unfolding(crate::specs::Tables::type_kind))]
 pub fn type_kind(w: u64, start: u64, n: u64, a: u64, b: u64) -> TypeKind
@@ -162,6 +168,7 @@ pub fn type_kind(w: u64, start: u64, n: u64, a: u64, b: u64) -> TypeKind
 }
 
 // The type of a word's number and n numbers of the lists.
+#[tactic(auto, unfolding(crate::specs::Tables::type_kind_in))]
 pub fn type_in(lists: &[u64], w: u64, start: u64, n: u64) -> TypeKind
     ensures { result ≡ type_kind_in lists.now w start n }
 {
@@ -183,6 +190,7 @@ pub fn placed_in(lists: &[u64], start: u64, n: u64) -> Placed
 }
 
 // Row k of the `count` variables or statics from `base` on.
+#[tactic(auto, unfolding(crate::specs::Tables::placed_at, crate::specs::Tables::numbers_at))]
 fn placed_row(rows: &[u64], lists: &[u64], base: u64, count: u64, k: u64) -> Option<Placed>
     requires { base + count ≤ 1099511627776 }
     ensures { result ≡ placed_at rows.now lists.now base count k }
@@ -241,6 +249,7 @@ pub fn node_kind(w: u64, start: u64, n: u64, a: u64, b: u64, c: u64) -> NodeKind
 }
 
 // The node of a word's number and n numbers of the lists.
+#[tactic(auto, unfolding(crate::specs::Tables::node_kind_in))]
 pub fn node_in(lists: &[u64], w: u64, start: u64, n: u64) -> NodeKind
     ensures { result ≡ node_kind_in lists.now w start n }
 {
@@ -251,6 +260,7 @@ pub fn node_in(lists: &[u64], w: u64, start: u64, n: u64) -> NodeKind
 }
 
 // One number on, told without a sum that could wrap.
+#[tactic(auto, unfolding(crate::specs::Tables::behind))]
 fn behind(lists: &[u64], start: u64) -> u64
     ensures { result ≡ behind lists.now start }
 {

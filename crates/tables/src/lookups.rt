@@ -1,6 +1,6 @@
 // The tables of a ticket that reading accepted, and its lines by their numbers.
 ghost use Rattle.spec.specs.Readable.{Readable};
-ghost use Rattle.tables.specs.Tables.{tables_of};
+ghost use Rattle.tables.specs.Tables.{tables_of, Sized};
 ghost use Rattle.tables.specs.OneProof.{Readable-prop};
 
 use super::{
@@ -8,16 +8,23 @@ use super::{
     place_kind, placed_row, type_in,
 };
 
-/// The rows of all lines, their numbers, and how many lines of each kind there are.
+/// The rows of all lines, their numbers, and how many lines of each kind there are: few enough for a row's place to be worked out.
 #[derive(Clone, Copy)]
-pub struct Tables<'a> {
+pub struct Lines<'a> {
     pub rows: &'a [u64],
     pub lists: &'a [u64],
     pub counts: Counts,
-    pub ghost readable: { Readable (tables_of rows.now lists.now counts) } by { Readable-prop (tables_of rows.now lists.now counts) },
+    pub ghost sized: { Sized counts },
 }
 
-impl Tables<'_> {
+/// The lines of a ticket that reading accepted.
+#[derive(Clone, Copy)]
+pub struct Tables<'a> {
+    pub lines: Lines<'a>,
+    pub ghost readable: { Readable (tables_of lines.rows.now lines.lists.now lines.counts) } by { Readable-prop (tables_of lines.rows.now lines.lists.now lines.counts) },
+}
+
+impl Lines<'_> {
     ghost use Rattle.std.specs.Prelude.{◌≡◌, ◌+◌, get_or};
     ghost use Rattle.std.specs.Option.{option_map};
     ghost use Rattle.spec.specs.Operands.{nth};
@@ -30,6 +37,7 @@ impl Tables<'_> {
         list_at(self.lists, start, i)
     }
 
+    #[tactic(auto, using(crate::proofs::Laws::few_lines), unfolding(crate::specs::Tables::type_kind_at))]
     pub fn type_at(&self, k: u64) -> TypeKind
         ensures { result ≡ type_kind_at self.now.rows.now self.now.lists.now self.now.counts k }
     {
@@ -41,36 +49,42 @@ impl Tables<'_> {
     }
 
     /// The stored size.
+    #[tactic(auto, using(crate::proofs::Laws::few_lines))]
     pub fn type_size(&self, k: u64) -> u64
         ensures { result ≡ size_at self.now.rows.now self.now.counts k }
     {
         cell(self.rows, 0, self.counts.types, k, 3, 0)
     }
 
+    #[tactic(auto, using(crate::proofs::Laws::few_lines))]
     pub fn type_weight(&self, k: u64) -> u64
         ensures { result ≡ weight_at self.now.rows.now self.now.counts k }
     {
         cell(self.rows, 0, self.counts.types, k, 4, 1)
     }
 
+    #[tactic(auto, using(crate::proofs::Laws::few_lines))]
     pub fn storage_owner(&self, k: u64) -> u64
         ensures { result ≡ owner_at self.now.rows.now self.now.lists.now self.now.counts k }
     {
         number(self.rows, self.lists, 1, self.counts.storages, k, 2)
     }
 
+    #[tactic(auto, using(crate::proofs::Laws::few_lines, crate::proofs::Laws::nth_placed))]
     pub fn variable_at(&self, k: u64) -> Option<Placed>
         ensures { nth (variables_of self.now.rows.now self.now.lists.now self.now.counts) k ≡ option_map placed_line result }
     {
         placed_row(self.rows, self.lists, 2, self.counts.variables, k)
     }
 
+    #[tactic(auto, using(crate::proofs::Laws::few_lines, crate::proofs::Laws::nth_placed))]
     pub fn static_at(&self, k: u64) -> Option<Placed>
         ensures { nth (statics_of self.now.rows.now self.now.lists.now self.now.counts) k ≡ option_map placed_line result }
     {
         placed_row(self.rows, self.lists, 3, self.counts.statics, k)
     }
 
+    #[tactic(auto, using(crate::proofs::Laws::few_lines), unfolding(crate::specs::Tables::place_kind_at))]
     pub fn place_at(&self, k: u64) -> PlaceKind
         ensures { result ≡ place_kind_at self.now.rows.now self.now.lists.now self.now.counts k }
     {
@@ -81,6 +95,7 @@ impl Tables<'_> {
         place_kind(w, a, b)
     }
 
+    #[tactic(auto, using(crate::proofs::Laws::few_lines), unfolding(crate::specs::Tables::node_kind_at))]
     pub fn node_at(&self, k: u64) -> NodeKind
         ensures { result ≡ node_kind_at self.now.rows.now self.now.lists.now self.now.counts k }
     {
@@ -92,12 +107,14 @@ impl Tables<'_> {
         node_in(self.lists, w, behind(self.lists, start), rest)
     }
 
+    #[tactic(auto, using(crate::proofs::Laws::few_lines))]
     pub fn node_type(&self, k: u64) -> u64
         ensures { result ≡ node_type_at self.now.rows.now self.now.lists.now self.now.counts k }
     {
         number(self.rows, self.lists, 5, self.counts.nodes, k, 0)
     }
 
+    #[tactic(auto, using(crate::proofs::Laws::few_lines))]
     pub fn node_line(&self, k: u64) -> u64
         ensures { result ≡ node_line_at self.now.rows.now self.now.counts k }
     {

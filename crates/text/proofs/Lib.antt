@@ -1,4 +1,5 @@
 pub mod Printing
+pub mod Front
 pub mod Copying
 pub mod Steps
 pub mod Positions

@@ -1,8 +1,10 @@
 -- What a row more, or a function line, makes of a reading.
-use mathlib.Core.Path.{◌≡◌, refl, ap, ◌∙◌}
+use mathlib.Core.Path.{◌≡◌, refl, sym, ap, ◌∙◌}
 use mathlib.Core.Bool.{true, false}
 use mathlib.Core.List.{List}
 use mathlib.Core.Logic.{⊎_elim}
+use Rattle.std.specs.Prelude.{Some}
+use Rattle.std.proofs.lemmas.Option.{none-some, same_Some}
 use Prim.Native.Nat.{ℕ, suc, ◌+◌, ◌*◌, ◌/◌, ◌≤◌, ◌<◌}
 use native.Mathlib.Omega.{arith}
 use native.Mathlib.Nat.{zero-add, eq-or-lt_of_le, le_of_suc-le-suc}
@@ -13,10 +15,10 @@ use Rattle.tables.specs.Tables.{row_of, run, storages_from, variables_from, stat
 use Rattle.spec.specs.Read.{Reading, type_number}
 use Rattle.spec.specs.Limits.{type_lines, storage_lines, variable_lines, static_lines, place_lines, node_lines}
 use Rattle.line_checks.specs.Rows.{word_at, row_at, type_row, storage_row, placed_row, place_row, node_row, marked, numbers, section, tables_by_counts, used_in, reading_of, Inside, Held, RowPut, Roomy, nodes_from}
-use Rattle.line_checks.specs.Keys.{key_of, key_row, noted, has_key, row_key}
+use Rattle.line_checks.specs.Keys.{Keyed, key_of, key_row, noted, has_key, row_key}
 use Rattle.line_checks.specs.Steps.{few_by_counts}
 use Rattle.line_checks.specs.declared.rows.Row.{Row}
-use Rattle.ticket.specs.Grown.{grown, row_by, PutBy, counted, Added}
+use Rattle.ticket.specs.Grown.{grown, row_of_line, row_by, PutBy, counted, Added}
 use Rattle.line_forms.specs.declared.Form.{Form}
 use Rattle.line_forms.specs.declared.LineKind.{LineKind}
 use Rattle.line_forms.specs.declared.LineKind.TheVariants.{Functions, Types, Storages, Variables, Statics, Places, Nodes}
@@ -59,6 +61,40 @@ inside_more u t used used' base n x p i l g = record { ends = λ k h. by k h }
 
 inside_wider : (u : List ℕ) (used used' base n : ℕ) → Inside u used base n → used ≤ used' → Inside u used' base n
 inside_wider u used used' base n i l = record { ends = λ k h. omega (arith, i.ends k h) }
+
+-- a row that none of these lines has
+module _ (u t : List ℕ) (c : Counts) (r : ℕ) (x : Row) (p : RowPut u t r x) (h : Held u c) where
+  held_apart : ((k : ℕ) → k < c.types → row_of 0 k ≡ r → ⊥) → ((k : ℕ) → k < c.storages → row_of storages_from k ≡ r → ⊥) → ((k : ℕ) → k < c.variables → row_of variables_from k ≡ r → ⊥)
+      → ((k : ℕ) → k < c.statics → row_of statics_from k ≡ r → ⊥) → ((k : ℕ) → k < c.places → row_of places_from k ≡ r → ⊥) → ((k : ℕ) → k < c.nodes → row_of nodes_from k ≡ r → ⊥) → Held t c
+  held_apart a b d e f g =
+      record {
+        few = h.few;
+        types = inside_kept u t c.used c.used 0 c.types r x p h.types (omega arith) a;
+        storages = inside_kept u t c.used c.used storages_from c.storages r x p h.storages (omega arith) b;
+        variables = inside_kept u t c.used c.used variables_from c.variables r x p h.variables (omega arith) d;
+        statics = inside_kept u t c.used c.used statics_from c.statics r x p h.statics (omega arith) e;
+        places = inside_kept u t c.used c.used places_from c.places r x p h.places (omega arith) f;
+        nodes = inside_kept u t c.used c.used nodes_from c.nodes r x p h.nodes (omega arith) g;
+      }
+
+  -- the next row of a kind
+  pub held_row : (k : LineKind) → Some r ≡ row_of_line k c → Held t c
+  held_row Functions q = absurd (none-some r (sym q))
+  held_row Types q = let z = same_Some r (c.types * 6) q in held_apart (λ k l e. omega arith) (λ k l e. omega arith) (λ k l e. omega arith) (λ k l e. omega arith) (λ k l e. omega arith) (λ k l e. omega arith)
+  held_row Storages q = let z = same_Some r (row_of storages_from c.storages) q in held_apart (λ k l e. omega arith) (λ k l e. omega arith) (λ k l e. omega arith) (λ k l e. omega arith) (λ k l e. omega arith) (λ k l e. omega arith)
+  held_row Variables q = let z = same_Some r (row_of variables_from c.variables) q in held_apart (λ k l e. omega arith) (λ k l e. omega arith) (λ k l e. omega arith) (λ k l e. omega arith) (λ k l e. omega arith) (λ k l e. omega arith)
+  held_row Statics q = let z = same_Some r (row_of statics_from c.statics) q in held_apart (λ k l e. omega arith) (λ k l e. omega arith) (λ k l e. omega arith) (λ k l e. omega arith) (λ k l e. omega arith) (λ k l e. omega arith)
+  held_row Places q = let z = same_Some r (row_of places_from c.places) q in held_apart (λ k l e. omega arith) (λ k l e. omega arith) (λ k l e. omega arith) (λ k l e. omega arith) (λ k l e. omega arith) (λ k l e. omega arith)
+  held_row Nodes q = let z = same_Some r (row_of nodes_from c.nodes) q in held_apart (λ k l e. omega arith) (λ k l e. omega arith) (λ k l e. omega arith) (λ k l e. omega arith) (λ k l e. omega arith) (λ k l e. omega arith)
+
+  pub keyed_row : (ls : List ℕ) → Roomy (length u) c → Keyed u ls c.types → (k : LineKind) → Some r ≡ row_of_line k c → Keyed t ls c.types
+  keyed_row ls room i Functions q = absurd (none-some r (sym q))
+  keyed_row ls room i Types q = let z = same_Some r (c.types * 6) q in keyed_put u t ls r x p (omega (arith, room.types)) c.types (λ k l e. omega arith) i
+  keyed_row ls room i Storages q = let z = same_Some r (row_of storages_from c.storages) q in keyed_put u t ls r x p (omega (arith, room.storages)) c.types (λ k l e. omega arith) i
+  keyed_row ls room i Variables q = let z = same_Some r (row_of variables_from c.variables) q in keyed_put u t ls r x p (omega (arith, room.variables)) c.types (λ k l e. omega arith) i
+  keyed_row ls room i Statics q = let z = same_Some r (row_of statics_from c.statics) q in keyed_put u t ls r x p (omega (arith, room.statics)) c.types (λ k l e. omega arith) i
+  keyed_row ls room i Places q = let z = same_Some r (row_of places_from c.places) q in keyed_put u t ls r x p (omega (arith, room.places)) c.types (λ k l e. omega arith) i
+  keyed_row ls room i Nodes q = let z = same_Some r (row_of nodes_from c.nodes) q in keyed_put u t ls r x p (omega (arith, room.nodes)) c.types (λ k l e. omega arith) i
 
 -- ---------------------------------------------------------------- a row behind those of a kind
 
@@ -280,15 +316,17 @@ module _ (u v ls : List ℕ) (c : Counts) (r : ℕ) (x : Row) (h : Held u c) (ro
 
   behind_held : Held v c
   behind_held =
-      record {
-        few = h.few;
-        types = inside_kept u v c.used c.used 0 c.types r x p h.types (omega arith) (λ k g q. omega (arith, room.types));
-        storages = inside_kept u v c.used c.used storages_from c.storages r x p h.storages (omega arith) (λ k g q. omega (arith, room.storages));
-        variables = inside_kept u v c.used c.used variables_from c.variables r x p h.variables (omega arith) (λ k g q. omega (arith, room.variables));
-        statics = inside_kept u v c.used c.used statics_from c.statics r x p h.statics (omega arith) (λ k g q. omega (arith, room.statics));
-        places = inside_kept u v c.used c.used places_from c.places r x p h.places (omega arith) (λ k g q. omega (arith, room.places));
-        nodes = inside_kept u v c.used c.used nodes_from c.nodes r x p h.nodes (omega arith) (λ k g q. omega (arith, room.nodes));
-      }
+      held_apart u v c r x p h (λ k g q. omega (arith, room.types)) (λ k g q. omega (arith, room.storages)) (λ k g q. omega (arith, room.variables))
+      (λ k g q. omega (arith, room.statics)) (λ k g q. omega (arith, room.places)) (λ k g q. omega (arith, room.nodes))
+
+-- a key noted
+module _ (u : List ℕ) (c : Counts) (H : ℕ) where
+  pub held_note : Held u c → Roomy (length u) c → Held (noted u H) c
+  held_note h room =
+      behind_held u (noted u H) u c (key_row (length u) H) (row_at (noted u H) (key_row (length u) H)) h room (note_put u H (omega (arith, room.types))) (slot_behind (length u) H)
+
+  pub keyed_noted : (ls : List ℕ) → Roomy (length u) c → Keyed u ls c.types → Keyed (noted u H) ls c.types
+  keyed_noted ls room i = keyed_note u H (omega (arith, room.types)) ls c.types (omega (arith, room.types)) i
 
 -- a type's row, behind those of the types
 module _ (v t ls : List ℕ) (c : Counts) (w n : ℕ) (e : Extent) (h : Held v c) (m : few_by_counts Types c ≡ true) (p : RowPut v t (c.types * 6) (row_by Types (form_of Types w n) c e)) where

@@ -6,27 +6,24 @@ use Rattle.std.specs.Prelude.{Option, None, Some, Result, Ok, Err, IsErrAnd}
 use Rattle.std.specs.Option.{ok_or}
 use Rattle.std.proofs.lemmas.Result.{err_from_is_err_and}
 use Prim.Native.Nat.{ℕ, ◌+◌, ◌≤◌, ◌<◌}
-use native.Mathlib.Omega.{arith}
 use lib.Dec.{lit<}
-use lib.ListN.{length}
 use borrow.Author.Tests.{le-leb, lt-leb, eqb-false}
 use Rattle.tables.specs.Tables.{row_of, run, storages_from, variables_from, statics_from, places_from}
 use Rattle.spec.specs.Ticket.{arg}
 use Rattle.answers.specs.declared.Refusal.{Refusal}
-use Rattle.line_checks.specs.Rows.{reading_of, tables_by_counts, Few, Inside, Held, word_at, row_at, section, numbers, type_row, storage_row, placed_row, place_row, node_row, nodes_from}
+use Rattle.line_checks.specs.Rows.{reading_of, tables_by_counts, Few, row_at, section, numbers, type_row, storage_row, placed_row, place_row, node_row, nodes_from}
 use Rattle.line_checks.specs.declared.rows.Row.{Row}
 use Rattle.line_checks.specs.declared.Measure.{Measure}
 use Rattle.line_checks.specs.Keys.{Keyed}
 use Rattle.line_checks.specs.Steps.{args_in, deepest_in, MarkedAll, Alike}
 use Rattle.line_checks.proofs.RowLaws.{section_same}
-use Rattle.line_checks.proofs.AlikeLaws.{alike_entry, deepest_alike}
-use Rattle.line_checks.proofs.KeyLaws.{keyed_marks}
+use Rattle.line_checks.proofs.AlikeLaws.{alike_entry, word_same, deepest_alike}
 use Rattle.line_forms.specs.declared.LineKind.{LineKind}
 use Rattle.line_forms.specs.declared.LineKind.TheVariants.{Functions, Types, Storages, Variables, Statics, Places, Nodes}
 use Rattle.line_forms.specs.declared.Form.{Form}
 use Rattle.tables.specs.declared.Counts.{Counts}
 use Rattle.ticket.specs.Grown.{Added}
-use Rattle.ticket.specs.Judged.{Open, types_in, sized_in, allowed_in, added_in, sums_in, extent, with_test, with_measure, with_depth, last_step, late_step, Judged}
+use Rattle.ticket.specs.Judged.{types_in, sized_in, allowed_in, added_in, sums_in, extent, with_test, with_measure, with_depth, last_step, late_step, Judged}
 
 -- where a function is left by `ok_or` and `?`: its error is that one, and there was no value
 pub left : {A B E : Type 0} (o : Option A) (e x : E) (r : Result B E) → IsErrAnd r (λ y. y ≡ x) → Err x ≡ ok_or o e → (r ≡ Err e) × (None ≡ o)
@@ -90,18 +87,15 @@ module _ (u t ls : List ℕ) (c : Counts) (few : Few c) (a : Alike u t) where
   plain_rows : {A : Type 0} (f : Row → A) (base n : ℕ) → base < places_from → section f t base n ≡ section f u base n
   plain_rows f base n h = section_same f u t base n (λ k l. ap f (a.rows base k h))
 
-  word_same : (q j : ℕ) → j < 5 → word_at t q j ≡ word_at u q j
-  word_same q j l = a.cells q j (λ e. omega arith) (omega arith)
-
   place_rows : (base n : ℕ) → section (place_row ls) t base n ≡ section (place_row ls) u base n
   unfolding row_at numbers
   place_rows base n =
-      section_same (place_row ls) u t base n (λ k l. let w = word_same (row_of base k) in rw (w 0 (lit< tt), w 1 (lit< tt), w 2 (lit< tt), w 3 (lit< tt), w 4 (lit< tt)))
+      section_same (place_row ls) u t base n (λ k l. let w = word_same u t a (row_of base k) in rw (w 0 (lit< tt), w 1 (lit< tt), w 2 (lit< tt), w 3 (lit< tt), w 4 (lit< tt)))
 
   node_rows : (base n : ℕ) → section (node_row ls) t base n ≡ section (node_row ls) u base n
   unfolding row_at numbers
   node_rows base n =
-      section_same (node_row ls) u t base n (λ k l. let w = word_same (row_of base k) in rw (w 0 (lit< tt), w 1 (lit< tt), w 2 (lit< tt), w 3 (lit< tt), w 4 (lit< tt)))
+      section_same (node_row ls) u t base n (λ k l. let w = word_same u t a (row_of base k) in rw (w 0 (lit< tt), w 1 (lit< tt), w 2 (lit< tt), w 3 (lit< tt), w 4 (lit< tt)))
 
   tables_alike : tables_by_counts t ls c ≡ tables_by_counts u ls c
   unfolding tables_by_counts
@@ -114,22 +108,6 @@ module _ (u t ls : List ℕ) (c : Counts) (few : Few c) (a : Alike u t) where
         place_rows places_from c.places,
         node_rows nodes_from c.nodes,
       )
-
-  inside_alike : (used base n : ℕ) → Inside u used base n → Inside t used base n
-  inside_alike used base n i =
-      record { ends = λ k h. rw (word_same (row_of base k) 1 (lit< tt), word_same (row_of base k) 2 (lit< tt)) (i.ends k h) }
-
-  held_alike : Held u c → Held t c
-  held_alike h =
-      record {
-        few = few;
-        types = inside_alike c.used 0 c.types h.types;
-        storages = inside_alike c.used storages_from c.storages h.storages;
-        variables = inside_alike c.used variables_from c.variables h.variables;
-        statics = inside_alike c.used statics_from c.statics h.statics;
-        places = inside_alike c.used places_from c.places h.places;
-        nodes = inside_alike c.used nodes_from c.nodes h.nodes;
-      }
 
 -- a line whose first tests are passed and whose marks are made
 module _ (ws ls : List ℕ) (c : Counts) (f : Form) (xs : List ℕ) (few : Few c) (p : true ≡ types_in ws ls c f.kind f.word xs) (m : Measure) (q : Some m ≡ sized_in ws c.types f.kind f.word xs)
@@ -149,9 +127,5 @@ module _ (ws ls : List ℕ) (c : Counts) (f : Form) (xs : List ℕ) (few : Few c
 
   pub late_goes : (v : List ℕ) (r : Result Counts Refusal) → Judged (last_step t ls c f xs m) v ls c f.count r → Judged (late_step ws ls c f xs) v ls c f.count r
   late_goes v r j = rw late_last j
-
--- what judging asks, once marks are made
-pub open_marked : (u t ls : List ℕ) (c : Counts) → Alike u t → length t ≡ length u → Open u ls c → Open t ls c
-open_marked u t ls c a l o = record { held = held_alike u t ls c o.held.few a o.held; roomy = rw l o.roomy; keyed = keyed_marks u t ls c.types a l o.keyed; lines = o.lines }
 
 pub ruleset lately = (late_types, late_size, late_once, late_goes)

@@ -22,7 +22,8 @@ use Rattle.answers.specs.declared.Refusal.{Refusal}
 use Rattle.answers.specs.Refusals.{refusal_number}
 use Rattle.line_checks.specs.Rows.{row_at, word_at, section, place_row, node_row, marked, tables_by_counts, used_in, reading_of, Held, nodes_from}
 use Rattle.ticket.specs.Judged.{StepAt}
-use Rattle.ticket.specs.Answers.{joined, with_left, least_rows, but_last, left_of, Answered, advance_of, Advance, Begun}
+use Rattle.ticket.specs.Answers.{joined, with_left, least_rows, but_last, left_of, Answered, advance_of, Advance, counts_by, SameReader, Begun}
+use Rattle.ticket.specs.declared.reading.Reader.{Reader}
 use Rattle.tables.specs.declared.Counts.{Counts}
 use Rattle.ticket.specs.declared.ReadError.{ReadError}
 use Rattle.line_checks.proofs.RowLaws.{length_section}
@@ -220,8 +221,17 @@ pub ruleset advancing = (advance_tail, advance_stop, advance_go)
 
 -- ---------------------------------------------------------------- the loop
 
+pub same_reader : (r : Reader) → SameReader r r
+same_reader r = record { text = refl; rows = refl; lists = refl; long = refl }
+
+pub reader_then : (r s t : Reader) → SameReader r s → SameReader s t → SameReader r t
+reader_then r s t a b = record { text = b.text ∙ a.text; rows = b.rows ∙ a.rows; lists = b.lists ∙ a.lists; long = b.long ∙ a.long }
+
 answered_as : {o p : Read} {t ls : List ℕ} {r : Result Counts ReadError} → o ≡ p → Answered p t ls r → Answered o t ls r
 answered_as e a = rw e a
+
+pub answered_there : (o : Read) (t ls t' ls' : List ℕ) (r : Result Counts ReadError) → Answered o t ls r → t' ≡ t → ls' ≡ ls → Answered o t' ls' r
+answered_there o t ls t' ls' r a e f = rw (e, f) a
 
 module _ (o : Read) (s u v : List ℕ) (c : Counts) (at : ℕ) (q : o ≡ read_lines (split line_feed (drop at s)) (reading_of u v c)) where
   pub lines_next : (t ls : List ℕ) (k : Counts) (p : ℕ) → Advance s u v t ls c at p (Ok k) → o ≡ read_lines (split line_feed (drop p s)) (reading_of t ls k)
@@ -233,14 +243,14 @@ module _ (o : Read) (s u v : List ℕ) (c : Counts) (at : ℕ) (q : o ≡ read_l
   lines_stopped t ls x p a = record { answer = sym (q ∙ sym a.answer); held = tt }
 
   -- where the reader's answer is told with the line's number
-  pub lines_left : (t ls : List ℕ) (p : ℕ) (r : Result Counts Refusal) (m n : Result Counts ReadError) (y : ReadError) (Q : Refusal → ReadError → Type 0) → Advance s u v t ls c at p r
+  pub lines_left : (t ls : List ℕ) (p : ℕ) (d : Counts) (r : Result (Unit {0}) Refusal) (m : Result (Unit {0}) ReadError) (n : Result Counts ReadError) (y : ReadError) (Q : Refusal → ReadError → Type 0) → Advance s u v t ls c at p (counts_by d r)
       → MatchResult r (λ k. m ≡ Ok k) (λ x. IsErrAnd m (Q x)) → ((x : Refusal) (z : ReadError) → Q x z → z ≡ ReadError.Refused (record { refusal = x; line = c.lines + 1 })) → m ≡ Err y
       → IsErrAnd n (λ z. z ≡ y) → Answered o t ls n
-  lines_left t ls p (Ok k) m n y Q a g w e h = cc
-  lines_left t ls p (Err x) m n y Q a g w e h =
-      let d = err_from_is_err_and m g in
+  lines_left t ls p d (Ok k) m n y Q a g w e h = cc
+  lines_left t ls p d (Err x) m n y Q a g w e h =
+      let o = err_from_is_err_and m g in
       let f = err_from_is_err_and n h in
-      let i = w x d.0 d.2 in
+      let i = w x o.0 o.2 in
       let b : n ≡ refusing x (c.lines + 1) = cc in
       rw b (lines_stopped t ls x p a)
 
@@ -248,14 +258,18 @@ module _ (o : Read) (s u v : List ℕ) (c : Counts) (at : ℕ) (q : o ≡ read_l
   unfolding split read_lines
   lines_over r h a = answered_as (q ∙ rw (drop_of_length-le s h)) a
 
-pub went : (r : Result Counts Refusal) (m : Result Counts ReadError) (k : Counts) (Q : Refusal → ReadError → Type 0) → MatchResult r (λ k. m ≡ Ok k) (λ x. IsErrAnd m (Q x)) → m ≡ Ok k → r ≡ Ok k
+pub went : (r : Result (Unit {0}) Refusal) (m : Result (Unit {0}) ReadError) (k : Unit {0}) (Q : Refusal → ReadError → Type 0) → MatchResult r (λ k. m ≡ Ok k) (λ x. IsErrAnd m (Q x)) → m ≡ Ok k → r ≡ Ok k
 went (Ok k') m k Q g e = cc
 went (Err x) m k Q g e = let d = err_from_is_err_and m g in cc
 
 pub lines_begin : (s u v : List ℕ) (c : Counts) → Begun c → read_lines (split line_feed s) start ≡ read_lines (split line_feed (drop 0 s)) (reading_of u v c)
 lines_begin s u v c b = rw (b.reading u v)
 
-pub begun : Begun (record { function = 0; next = 0; types = 0; storages = 0; variables = 0; statics = 0; places = 0; nodes = 0; used = 0; stage = 0; lines = 0; sizes = 0; weights = 0 })
+-- the counts as they are at first
+abbrev pub none_read : Counts
+none_read = record { function = 0; next = 0; types = 0; storages = 0; variables = 0; statics = 0; places = 0; nodes = 0; used = 0; stage = 0; lines = 0; sizes = 0; weights = 0 }
+
+pub begun : Begun none_read
 unfolding reading_of tables_by_counts used_in section tab
 begun =
     record {

@@ -11,6 +11,7 @@ use Rattle.line_checks.specs.Keys.{Keyed}
 use Rattle.tables.specs.declared.Counts.{Counts}
 use Rattle.ticket.specs.Judged.{Open}
 use Rattle.ticket.specs.declared.ReadError.{ReadError}
+use Rattle.ticket.specs.declared.reading.Reader.{Reader}
 
 abbrev pub joined : ℕ → Option ℕ → Option ℕ
 joined x None = Some x
@@ -51,6 +52,18 @@ pub record Advance (s u v t ls : List ℕ) (c : Counts) (at p : ℕ) (r : Result
 -- what reading a line at a position asks
 abbrev pub Ready : List ℕ → List ℕ → List ℕ → Counts → ℕ → Type 0
 Ready s ws ls c at = Open ws ls c × (length s ≤ length ls * 2) × (c.used * 2 ≤ at) × (at < length s)
+
+-- the counts, where reading goes on
+abbrev pub counts_by : {A : Type 0} → Counts → Result A Refusal → Result Counts Refusal
+counts_by c (Ok a) = Ok c
+counts_by c (Err e) = Err e
+
+-- a reader of the same text into the same slices
+pub record SameReader (r r' : Reader) : Type 0 where
+  pub text : r'.text ≡ r.text
+  pub rows : r'.rows.ghost_name ≡ r.rows.ghost_name
+  pub lists : r'.lists.ghost_name ≡ r.lists.ghost_name
+  pub long : length r'.lists.now ≡ length r.lists.now
 
 -- no line read: the state at the start, whatever the words are
 pub record Begun (c : Counts) : Type 0 where

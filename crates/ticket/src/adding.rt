@@ -1,23 +1,23 @@
 // A line added to the tables.
-ghost use Rattle.std.specs.Prelude.{◌≡◌, true, ◌+◌, ◌≤◌, ◌<◌, length};
-ghost use Rattle.line_checks.specs.Rows.{Few, Held, Roomy};
-ghost use Rattle.line_checks.specs.Steps.{few_by_counts};
+ghost use Rattle.std.specs.Prelude.{◌≡◌};
 ghost use Rattle.ticket.specs.Grown.{row_of_line, line_row, counted, LinePut, Added};
+ghost use Rattle.ticket.specs.Lines.{SameLine};
 
-use crate::{Extent, numbers_of};
+use crate::Extent;
+use crate::lines::Line;
 use line_checks::checks::rank;
 use line_checks::keys::note;
 use line_checks::rows::{Row, put_row};
 use line_checks::words::TypeWord;
-use line_forms::{Form, LineKind};
+use line_forms::LineKind;
 use tables::{Counts, word as number};
 
 // The row that a line takes; a function line takes none.
-fn next_row(kind: LineKind, counts: Counts) -> Option<u64>
-    requires { Few counts }
-    ensures { result ≡ row_of_line kind counts }
+fn next_row(line: &Line<'_>) -> Option<u64>
+    ensures { result ≡ row_of_line line.now.form.kind line.now.counts.now }
 {
-    match kind {
+    let counts = line.counts;
+    match line.form.kind {
         LineKind::Functions => None,
         LineKind::Types => Some(counts.types * 6),
         LineKind::Storages => Some(1 + counts.storages * 6),
@@ -28,18 +28,18 @@ fn next_row(kind: LineKind, counts: Counts) -> Option<u64>
     }
 }
 
-fn line_row(form: Form, counts: Counts, e: Extent) -> Row
-    requires { counts.lines < 65536 }
-    ensures { result ≡ line_row form counts e }
+fn line_row(line: &Line<'_>, e: Extent) -> Row
+    ensures { result ≡ line_row line.now.form line.now.counts.now e }
 {
+    let form = line.form;
     let (third, fourth, fifth) = match form.kind {
         LineKind::Types => (e.own.size, e.own.weight, e.depth),
-        LineKind::Places | LineKind::Nodes => (counts.lines + 1, e.depth, 0),
+        LineKind::Places | LineKind::Nodes => (line.counts.lines + 1, e.depth, 0),
         _ => (0, 0, 0),
     };
     Row {
         word: form.word,
-        start: counts.used,
+        start: line.counts.used,
         count: form.count,
         third,
         fourth,
@@ -48,28 +48,29 @@ fn line_row(form: Form, counts: Counts, e: Extent) -> Row
 }
 
 // A type's key is noted, and a line's row stored.
-fn put_line(form: Form, rows: &mut [u64], numbers: &[u64], counts: Counts, e: Extent)
-    requires { Few counts × Roomy (length rows.old) counts × (counts.lines < 65536) }
-    ensures { LinePut rows.old rows.new form numbers.now counts e }
+fn put_line(line: &mut Line<'_>, e: Extent)
+    ensures same { SameLine line.old line.new }
+    ensures put { LinePut line.old.rows.now line.new.rows.now line.old.form line.old.numbers.now line.old.counts.now e }
 {
-    let Some(r) = next_row(form.kind, counts) else {
+    let Some(r) = next_row(line) else {
         return;
     };
-    if let LineKind::Types = form.kind {
-        note(rows, TypeWord::from(form.word), numbers);
+    let row = line_row(line, e);
+    if let LineKind::Types = line.form.kind {
+        note(line.rows, TypeWord::from(line.form.word), line.numbers);
     }
-    put_row(rows, r, line_row(form, counts, e));
+    put_row(line.rows, r, row);
 }
 
 // One line more of its kind.
-fn counted(kind: LineKind, counts: Counts, numbers: &[u64]) -> Counts
-    requires { Few counts }
-    ensures { result ≡ counted kind counts numbers.now }
+fn counted(line: &Line<'_>) -> Counts
+    ensures { result ≡ counted line.now.form.kind line.now.counts.now line.now.numbers.now }
 {
-    match kind {
+    let counts = *line.counts;
+    match line.form.kind {
         LineKind::Functions => Counts {
-            function: number(numbers, 0),
-            next: number(numbers, 1),
+            function: number(line.numbers, 0),
+            next: number(line.numbers, 1),
             ..counts
         },
         LineKind::Types => Counts {
@@ -100,18 +101,19 @@ fn counted(kind: LineKind, counts: Counts, numbers: &[u64]) -> Counts
 }
 
 // A line's row stored, and the counts with it.
-pub fn add(form: Form, rows: &mut [u64], lists: &[u64], counts: Counts, e: Extent) -> Counts
-    requires { Held rows.old counts × Roomy (length rows.old) counts × (counts.used + form.count ≤ length lists.now) × (few_by_counts form.kind counts ≡ true) × (counts.lines < 65536) }
-    ensures { Added rows.old rows.new lists.now form counts e result }
+pub fn add(line: &mut Line<'_>, e: Extent) -> Counts
+    ensures same { SameLine line.old line.new }
+    ensures added { Added line.old.rows.now line.new.rows.now line.old.lists.now line.old.form line.old.counts.now e result }
 {
-    let numbers = numbers_of(form, lists, counts);
-    put_line(form, rows, numbers, counts, e);
-    Counts {
-        used: counts.used + form.count,
+    let form = line.form;
+    let counts = Counts {
+        used: line.counts.used + form.count,
         stage: rank(form.kind) + 1,
-        lines: counts.lines + 1,
+        lines: line.counts.lines + 1,
         sizes: e.sums.size,
         weights: e.sums.weight,
-        ..counted(form.kind, counts, numbers)
-    }
+        ..counted(line)
+    };
+    put_line(line, e);
+    counts
 }

@@ -11,6 +11,7 @@ use line_forms::Form;
 use tables::Counts;
 
 mod adding;
+mod lines;
 pub mod reading;
 mod steps;
 
@@ -24,14 +25,14 @@ struct Extent {
 
 // A line's numbers, behind those in use.
 #[tactic(auto, using(line_checks::proofs::MeasureLaws::slice_run))]
-fn numbers_of(form: Form, lists: &[u64], counts: Counts) -> &[u64]
-    requires { counts.used + form.count ≤ length lists.now }
-    ensures { result.now ≡ run lists.now counts.used form.count }
+fn numbers_of<'a>(form: Form, lists: &'a [u64], counts: &Counts) -> &'a [u64]
+    requires { counts.now.used + form.count ≤ length lists.now }
+    ensures { result.now ≡ run lists.now counts.now.used form.count }
 {
     &lists[counts.used..counts.used + form.count]
 }
 
-/// Why a ticket is not read: it is refused, or the rows lent are too few for its lines.
+/// Why a ticket is not read: it is refused, or the rows lent are too few for its lines. No `Option`: both are errors.
 #[derive(Clone, Copy, Debug, PartialEq, Eq)]
 pub enum ReadError {
     Refused(Refused<Refusal>),

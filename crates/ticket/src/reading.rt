@@ -4,7 +4,7 @@ ghost use Rattle.tables.specs.Tables.{row_of};
 ghost use Rattle.spec.specs.Text.{split, line_feed};
 ghost use Rattle.spec.specs.Read.{at_end, read_lines as lines_read, read_ticket as ticket_read, start};
 ghost use Rattle.line_checks.specs.Rows.{Few, Held, RoomIs, reading_of};
-ghost use Rattle.ticket.specs.Answers.{with_left, least_rows, left_of, Answered, Advance, Ready, Begun};
+ghost use Rattle.ticket.specs.Answers.{with_left, least_rows, left_of, Answered, Advance, Ready, SameReader, counts_by};
 
 use crate::ReadError;
 use crate::steps::step;
@@ -37,100 +37,79 @@ fn least_left(rows: &[u64], base: u64, n: u64, seen: Option<u64>) -> Option<u64>
     least
 }
 
-// The root, which is the last node, is referred to by nothing.
-#[tactic(auto, using(crate::proofs::ReadLaws::last_less))]
-fn left_over(rows: &[u64], counts: Counts) -> Option<u64>
-    requires { Few counts }
-    ensures { result ≡ left_of rows.now counts }
-{
-    let seen = least_left(rows, 5, counts.nodes.saturating_sub(1), None);
-    least_left(rows, 4, counts.places, seen)
-}
-
 fn refused(refusal: Refusal, line: u64) -> ReadError
     ensures { result ≡ ReadError.Refused (record { refusal = refusal; line = line }) }
 {
     ReadError::from(Refused { refusal, line })
 }
 
-// The text's end: a line left over, or no node.
-#[tactic(auto, using(crate::proofs::ReadLaws::ending))]
-fn finish(rows: &[u64], lists: &[u64], counts: Counts) -> Result<Counts, ReadError>
-    requires { Held rows.now counts × (counts.lines ≤ 65536) × (counts.used ≤ length lists.now) }
-    ensures { Answered (at_end (reading_of rows.now lists.now counts)) rows.now lists.now result }
-{
-    if let Some(line) = left_over(rows, counts) {
-        return Err(refused(Refusal::NotOnce, line));
-    }
-    if counts.nodes == 0 {
-        return Err(refused(Refusal::BadForm, counts.lines + 1));
-    }
-    Ok(counts)
-}
-
-// The text, and where its next line begins.
+// The text, where its next line begins, and what is read of it.
 #[derive(Drop)]
 struct Reader<'a> {
     text: &'a [u8],
     at: usize,
+    rows: &'a mut [u64],
+    lists: &'a mut [u64],
+    counts: Counts,
 }
 
 impl Reader<'_> {
+    // Whether there is a row more for each kind. One row of each takes 40 words, with those for keys.
+    fn room(&self) -> bool
+        ensures { RoomIs (length self.now.rows.now) self.now.counts result }
+    {
+        let n = self.rows.len() as u64 / 40;
+        let counts = &self.counts;
+        counts.types < n
+            && counts.storages < n
+            && counts.variables < n
+            && counts.statics < n
+            && counts.places < n
+            && counts.nodes < n
+    }
+
     // The next line, judged and added: the reader moves behind it.
     #[tactic(auto, using(crate::proofs::ReadLaws::advancing))]
-    fn next_line(
-        &mut self,
-        rows: &mut [u64],
-        lists: &mut [u64],
-        counts: Counts,
-    ) -> Result<Counts, Refusal>
-        requires { Ready self.old.text.now rows.old lists.old counts self.old.at }
-        ensures text { self.new.text ≡ self.old.text }
-        ensures line { Advance self.old.text.now rows.old lists.old rows.new lists.new counts self.old.at self.new.at result }
+    fn next_line(&mut self) -> Result<(), Refusal>
+        requires { Ready self.old.text.now self.old.rows.now self.old.lists.now self.old.counts self.old.at }
+        ensures same { SameReader self.old self.new }
+        ensures line { Advance self.old.text.now self.old.rows.now self.old.lists.now self.new.rows.now self.new.lists.now self.old.counts self.old.at self.new.at (counts_by self.new.counts result) }
     {
         let end = fields::find(self.text, self.at, b'\n');
         if end == self.text.len() {
             return Err(Refusal::BadForm);
         }
-        let next = step(&self.text[self.at..end], rows, lists, counts)?;
+        let text = &self.text[self.at..end];
+        let counts = self.counts;
+        self.counts = step(text, self.rows, self.lists, &counts)?;
         self.at = end + 1;
-        Ok(next)
+        Ok(())
     }
-}
 
-// No line read.
-#[tactic(auto, using(crate::proofs::ReadLaws::begun))]
-fn none_read() -> Counts
-    ensures { Begun result }
-{
-    Counts {
-        function: 0,
-        next: 0,
-        types: 0,
-        storages: 0,
-        variables: 0,
-        statics: 0,
-        places: 0,
-        nodes: 0,
-        used: 0,
-        stage: 0,
-        lines: 0,
-        sizes: 0,
-        weights: 0,
+    // The root, which is the last node, is referred to by nothing.
+    #[tactic(auto, using(crate::proofs::ReadLaws::last_less))]
+    fn left_over(&self) -> Option<u64>
+        requires { Few self.now.counts }
+        ensures { result ≡ left_of self.now.rows.now self.now.counts }
+    {
+        let seen = least_left(self.rows, 5, self.counts.nodes.saturating_sub(1), None);
+        least_left(self.rows, 4, self.counts.places, seen)
     }
-}
 
-// Whether there is a row more for each kind. One row of each takes 40 words, with those for keys.
-fn room(rows: &[u64], counts: Counts) -> bool
-    ensures { RoomIs (length rows.now) counts result }
-{
-    let n = rows.len() as u64 / 40;
-    counts.types < n
-        && counts.storages < n
-        && counts.variables < n
-        && counts.statics < n
-        && counts.places < n
-        && counts.nodes < n
+    // The text's end: a line left over, or no node.
+    #[tactic(auto, using(crate::proofs::ReadLaws::ending))]
+    fn finish(&self) -> Result<Counts, ReadError>
+        requires { Held self.now.rows.now self.now.counts × (self.now.counts.lines ≤ 65536) × (self.now.counts.used ≤ length self.now.lists.now) }
+        ensures { Answered (at_end (reading_of self.now.rows.now self.now.lists.now self.now.counts)) self.now.rows.now self.now.lists.now result }
+    {
+        if let Some(line) = self.left_over() {
+            return Err(refused(Refusal::NotOnce, line));
+        }
+        if self.counts.nodes == 0 {
+            return Err(refused(Refusal::BadForm, self.counts.lines + 1));
+        }
+        Ok(self.counts)
+    }
 }
 
 #[tactic(auto, using(crate::proofs::ReadLaws::lines_over))]
@@ -138,18 +117,24 @@ fn read_lines(text: &[u8], rows: &mut [u64], lists: &mut [u64]) -> Result<Counts
     requires { (length text.now ≤ length lists.old * 2) × (length text.now ≤ 65536) }
     ensures { Answered (lines_read (split line_feed text.now) start) rows.new lists.new result }
 {
-    let mut counts = none_read();
-    let mut reader = Reader { text, at: 0 };
+    let mut reader = Reader {
+        text,
+        at: 0,
+        rows,
+        lists,
+        counts: Counts::default(),
+    };
+    // By what was read: a line's end is found as it is read, so there is no counted index.
     while reader.at < text.len() {
-        if !room(rows, counts) {
+        if !reader.room() {
             return Err(ReadError::NoRoom);
         }
-        let line = counts.lines + 1;
-        counts = reader
-            .next_line(rows, lists, counts)
+        let line = reader.counts.lines + 1;
+        reader
+            .next_line()
             .map_err(|refusal| refused(refusal, line))?;
     }
-    finish(rows, lists, counts)
+    reader.finish()
 }
 
 /// Any bytes into tables, or their refusal, or too little room for the tables.

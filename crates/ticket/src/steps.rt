@@ -1,14 +1,15 @@
 // A line judged and added: refusals 5, 6, 7, 9 and 10.
-ghost use Rattle.std.specs.Prelude.{◌≡◌, true, ◌+◌, ◌*◌, ◌≤◌, length};
+ghost use Rattle.std.specs.Prelude.{◌≡◌, ◌+◌, ◌*◌, ◌≤◌, length};
 ghost use Rattle.spec.specs.Forms.{line_of};
 ghost use Rattle.spec.specs.Read.{right_start, step as step_from};
-ghost use Rattle.line_checks.specs.Rows.{Held, Roomy, reading_of};
-ghost use Rattle.line_checks.specs.Keys.{Keyed};
+ghost use Rattle.line_checks.specs.Rows.{reading_of};
 ghost use Rattle.line_checks.specs.Words.{word_of};
-ghost use Rattle.line_checks.specs.Steps.{few_by_counts, capped, args_in, deepest_in};
-ghost use Rattle.ticket.specs.Judged.{Open, types_in, sized_in, allowed_in, added_in, sums_with, numbers_of as lent, Judged, last_step, late_step, StepAt};
+ghost use Rattle.line_checks.specs.Steps.{capped, args_in, deepest_in, MarkedDeep};
+ghost use Rattle.ticket.specs.Judged.{Open, types_in, sized_in, allowed_in, added_in, sums_with, Judged, last_step, late_step, StepAt};
+ghost use Rattle.ticket.specs.Lines.{SameLine};
 
 use crate::adding::add;
+use crate::lines::Line;
 use crate::{Extent, numbers_of};
 use answers::Refusal;
 use line_checks::checks::{early, mark_all};
@@ -16,7 +17,7 @@ use line_checks::measures::{alike, measure, within};
 use line_checks::types::{Part, Types};
 use line_checks::words::TypeWord;
 use line_checks::{Measure, limits};
-use line_forms::{Form, LineKind, line_form};
+use line_forms::{LineKind, line_form};
 use tables::{Counts, word as number};
 
 // 5: types 0 and 1 are bool and pointer.
@@ -30,27 +31,43 @@ fn right_start(k: u64, word: TypeWord) -> bool
     }
 }
 
-fn types_right(form: Form, rows: &[u64], lists: &[u64], counts: Counts, numbers: &[u64]) -> bool
-    requires { Held rows.now counts × Roomy (length rows.now) counts × Keyed rows.now lists.now counts.types × (counts.used ≤ length lists.now) }
-    ensures { result ≡ types_in rows.now lists.now counts form.kind form.word numbers.now }
+fn types_right(line: &Line<'_>) -> bool
+    ensures { result ≡ types_in line.now.rows.now line.now.lists.now line.now.counts.now line.now.form.kind line.now.form.word line.now.numbers.now }
 {
-    match form.kind {
+    match line.form.kind {
         LineKind::Functions => true,
         LineKind::Types => {
-            let word = TypeWord::from(form.word);
-            !alike(rows, lists, counts, word, numbers) && right_start(counts.types, word)
+            let word = TypeWord::from(line.form.word);
+            !alike(line.rows, line.lists, line.counts, word, line.numbers)
+                && right_start(line.counts.types, word)
         }
-        _ => 2 <= counts.types,
+        _ => 2 <= line.counts.types,
     }
 }
 
 // 6: a type's size and weight.
-fn sized(form: Form, types: Types<'_>, numbers: &[u64]) -> Option<Measure>
-    ensures { result ≡ sized_in types.entry.rows.now types.entry.count form.kind form.word numbers.now }
+fn sized(line: &Line<'_>) -> Option<Measure>
+    ensures { result ≡ sized_in line.now.rows.now line.now.counts.now.types line.now.form.kind line.now.form.word line.now.numbers.now }
 {
-    match form.kind {
-        LineKind::Types => measure(types, TypeWord::from(form.word), numbers),
+    match line.form.kind {
+        LineKind::Types => {
+            let types = Types {
+                rows: line.rows,
+                count: line.counts.types,
+            };
+            measure(types, TypeWord::from(line.form.word), line.numbers)
+        }
         _ => Some(Measure::default()),
+    }
+}
+
+impl Line<'_> {
+    // 7: the depth of what its numbers refer to, or one of them refers to a line a second time.
+    fn mark_all(&mut self) -> Option<u64>
+        ensures same { SameLine self.old self.new }
+        ensures marked { MarkedDeep self.old.rows.now self.new.rows.now self.old.counts.now (args_in self.old.form.kind self.old.form.word self.old.numbers.now) result }
+    {
+        mark_all(self.form, self.rows, self.numbers, self.counts)
     }
 }
 
@@ -65,12 +82,16 @@ fn allowed(kind: LineKind) -> u64
 }
 
 // 10: what a line adds to the sums: what a node's type measures.
-fn added(kind: LineKind, types: Types<'_>, numbers: &[u64]) -> Measure
-    ensures { result ≡ added_in types.entry.rows.now types.entry.count kind numbers.now }
+fn added(line: &Line<'_>) -> Measure
+    ensures { result ≡ added_in line.now.rows.now line.now.counts.now.types line.now.form.kind line.now.numbers.now }
 {
-    match kind {
+    match line.form.kind {
         LineKind::Nodes => {
-            let ty = number(numbers, 0);
+            let types = Types {
+                rows: line.rows,
+                count: line.counts.types,
+            };
+            let ty = number(line.numbers, 0);
             Measure {
                 size: types.part(Part::Size, ty),
                 weight: types.part(Part::Weight, ty),
@@ -89,8 +110,8 @@ fn total(sum: u64, x: u64, limit: u64) -> Option<u64>
 }
 
 #[tactic(auto, using(line_checks::proofs::MeasureLaws::measuring))]
-fn sums(counts: Counts, added: Measure) -> Option<Measure>
-    ensures { result ≡ sums_with counts added }
+fn sums(counts: &Counts, added: Measure) -> Option<Measure>
+    ensures { result ≡ sums_with counts.now added }
 {
     let size = total(counts.sizes, added.size, limits::SIZE_SUM_LIMIT)?;
     let weight = total(counts.weights, added.weight, limits::WEIGHT_SUM_LIMIT)?;
@@ -99,63 +120,54 @@ fn sums(counts: Counts, added: Measure) -> Option<Measure>
 
 // 9 and 10, and then the line is added.
 #[tactic(auto, using(crate::proofs::JudgeLaws::left, crate::proofs::JudgeLaws::lasting))]
-fn last(
-    form: Form,
-    rows: &mut [u64],
-    lists: &[u64],
-    counts: Counts,
-    own: Measure,
-    depth: u64,
-) -> Result<Counts, Refusal>
-    requires { Open rows.old lists.now counts × (counts.used + form.count ≤ length lists.now) × (few_by_counts form.kind counts ≡ true) × (depth ≡ deepest_in rows.old counts (args_in form.kind form.word (lent lists.now counts form))) }
-    ensures { Judged (last_step rows.old lists.now counts form (lent lists.now counts form) own) rows.new lists.now counts form.count result }
+fn last(line: &mut Line<'_>, own: Measure, depth: u64) -> Result<Counts, Refusal>
+    requires { depth ≡ deepest_in line.old.rows.now line.old.counts.now (args_in line.old.form.kind line.old.form.word line.old.numbers.now) }
+    ensures same { SameLine line.old line.new }
+    ensures judged { Judged (last_step line.old.rows.now line.old.lists.now line.old.counts.now line.old.form line.old.numbers.now own) line.new.rows.now line.old.lists.now line.old.counts.now line.old.form.count result }
 {
-    if allowed(form.kind) <= depth {
+    if allowed(line.form.kind) <= depth {
         return Err(Refusal::TooDeep);
     }
-    let numbers = numbers_of(form, lists, counts);
-    let types = Types {
-        rows,
-        count: counts.types,
-    };
-    let added = added(form.kind, types, numbers);
-    let sums = sums(counts, added).ok_or(Refusal::LargeSums)?;
+    let sums = sums(line.counts, added(line)).ok_or(Refusal::LargeSums)?;
     let depth = depth + 1;
-    Ok(add(form, rows, lists, counts, Extent { own, depth, sums }))
+    Ok(add(line, Extent { own, depth, sums }))
 }
 
 // 5, 6 and 7, and then the rest.
 #[tactic(auto, using(crate::proofs::JudgeLaws::left, crate::proofs::JudgeLaws::lately))]
-fn late(form: Form, rows: &mut [u64], lists: &[u64], counts: Counts) -> Result<Counts, Refusal>
-    requires { Open rows.old lists.now counts × (counts.used + form.count ≤ length lists.now) × (few_by_counts form.kind counts ≡ true) }
-    ensures { Judged (late_step rows.old lists.now counts form (lent lists.now counts form)) rows.new lists.now counts form.count result }
+fn late(line: &mut Line<'_>) -> Result<Counts, Refusal>
+    ensures same { SameLine line.old line.new }
+    ensures judged { Judged (late_step line.old.rows.now line.old.lists.now line.old.counts.now line.old.form line.old.numbers.now) line.new.rows.now line.old.lists.now line.old.counts.now line.old.form.count result }
 {
-    let numbers = numbers_of(form, lists, counts);
-    if !types_right(form, rows, lists, counts, numbers) {
+    if !types_right(line) {
         return Err(Refusal::BadTypes);
     }
-    let types = Types {
-        rows,
-        count: counts.types,
-    };
-    let own = sized(form, types, numbers).ok_or(Refusal::LargeType)?;
-    let depth = mark_all(form, rows, numbers, counts).ok_or(Refusal::NotOnce)?;
-    last(form, rows, lists, counts, own, depth)
+    let own = sized(line).ok_or(Refusal::LargeType)?;
+    let depth = line.mark_all().ok_or(Refusal::NotOnce)?;
+    last(line, own, depth)
 }
 
-// A line without its line feed.
+// The text of a line without its line feed.
 #[tactic(auto, using(crate::proofs::JudgeLaws::left, crate::proofs::StepLaws::stepping))]
 pub fn step(
-    line: &[u8],
+    text: &[u8],
     rows: &mut [u64],
     lists: &mut [u64],
-    counts: Counts,
+    counts: &Counts,
 ) -> Result<Counts, Refusal>
-    requires { Open rows.old lists.old counts × (counts.used * 2 + length line.now ≤ length lists.old * 2) }
-    ensures { StepAt (step_from (reading_of rows.old lists.old counts) (line_of line.now))
-        line.now rows.new lists.new counts result }
+    requires { Open rows.old lists.old counts.now × (counts.now.used * 2 + length text.now ≤ length lists.old * 2) }
+    ensures { StepAt (step_from (reading_of rows.old lists.old counts.now) (line_of text.now))
+        text.now rows.new lists.new counts.now result }
 {
-    let form = line_form(line, lists, counts.used).ok_or(Refusal::BadForm)?;
-    early(form, numbers_of(form, lists, counts), counts)?;
-    late(form, rows, lists, counts)
+    let form = line_form(text, lists, counts.used).ok_or(Refusal::BadForm)?;
+    let numbers = numbers_of(form, lists, counts);
+    early(form, numbers, counts)?;
+    let mut line = Line {
+        rows,
+        lists,
+        counts,
+        form,
+        numbers,
+    };
+    late(&mut line)
 }

@@ -57,6 +57,7 @@ shape_in (Rep.Aggregate n m) = aggregate_shape n m
 abbrev pub head_of : Val → Head
 head_of v = record { ty = v.ty; shape = shape_in v.repr }
 
+-- what is asked where a value's bytes are read; why it is no fact of the type stands beside `Value`
 abbrev pub Sound_repr : Rep → Type 0
 Sound_repr Rep.Unit = Unit {0}
 Sound_repr (Rep.Bit b) = Unit {0}

@@ -18,6 +18,9 @@ pub enum Repr {
     Aggregate(u64, u64),
 }
 
+// That its bytes are `Small` is asked where they are read (`Sound_value`), and is no fact of the type: there is no heap, so values stand as
+// words in a lent stack, and `value_at` answers a value for any words there, also for those that are no sound value's. A type with the
+// fact would ask more of its callers, as of those of `value_words`.
 #[derive(Clone, Copy, Debug, PartialEq, Eq)]
 pub struct Value {
     pub ty: u64,
@@ -26,6 +29,8 @@ pub struct Value {
 
 /// What lowering writes to: the listing's texts, a mark for each older storage that was narrowed, and the parts of values on a stack, whose
 /// free words begin at `top`.
+// The tables are no field of it: lent shared beside it, they say by their type that no step changes them, where here each contract would
+// have to say that they are the same behind it.
 #[derive(Drop)]
 pub struct Lowering<'a> {
     pub out: Emitter<'a>,
@@ -34,7 +39,21 @@ pub struct Lowering<'a> {
     pub top: usize,
 }
 
-/// A value's record. What a value is stands there as a number, since the stack is lent as words.
+// What a value is stands in its record's second word, and where a bit or bytes come from in the third: numbers, since the stack is lent
+// as words, there being no heap. Other words stand for the last of each.
+const UNIT: u64 = 0;
+
+const BIT: u64 = 1;
+
+const BYTES: u64 = 2;
+
+const AGGREGATE: u64 = 3;
+
+const CONSTANT: u64 = 0;
+
+const STORAGE: u64 = 1;
+
+/// A value's record.
 // No `From`: eight words are no value of another form, and the name says what they are.
 #[tactic(auto, unfolding(crate::specs::Left::value_words))]
 pub fn value_words(v: Value) -> [u64; 8]
@@ -42,14 +61,25 @@ pub fn value_words(v: Value) -> [u64; 8]
 {
     let ty = v.ty;
     match v.repr {
-        Repr::Unit => [ty, 0, 0, 0, 0, 0, 0, 0],
-        Repr::Bit(BitOperand::Constant(n)) => [ty, 1, 0, n, 0, 0, 0, 0],
-        Repr::Bit(BitOperand::Storage(s)) => [ty, 1, 1, s.0, 0, 0, 0, 0],
+        Repr::Unit => [ty, UNIT, 0, 0, 0, 0, 0, 0],
+        Repr::Bit(BitOperand::Constant(n)) => [ty, BIT, CONSTANT, n, 0, 0, 0, 0],
+        Repr::Bit(BitOperand::Storage(s)) => [ty, BIT, STORAGE, s.0, 0, 0, 0, 0],
         Repr::Bytes(b) => match b.source {
-            Source::Constant(n) => [ty, 2, 0, n, 0, b.count, b.total, 0],
-            Source::Storage(s) => [ty, 2, 1, s.storage.0, s.offset, b.count, b.total, 0],
+            Source::Constant(n) => [ty, BYTES, CONSTANT, n, 0, b.count, b.total, 0],
+            Source::Storage(s) => {
+                [
+                    ty,
+                    BYTES,
+                    STORAGE,
+                    s.storage.0,
+                    s.offset,
+                    b.count,
+                    b.total,
+                    0,
+                ]
+            }
         },
-        Repr::Aggregate(n, m) => [ty, 3, n, m, 0, 0, 0, 0],
+        Repr::Aggregate(n, m) => [ty, AGGREGATE, n, m, 0, 0, 0, 0],
     }
 }
 
@@ -63,7 +93,7 @@ pub fn store8(stack: &mut [u64], at: usize, ws: [u64; 8])
     }
 }
 
-/// Word i, or 0 behind the end.
+/// Word i, or 0 behind the end: as `word` of tables, which this crate has nothing else of.
 pub fn word(s: &[u64], i: usize) -> u64
     ensures { result ≡ get_or s.now i 0 }
 {
@@ -74,7 +104,7 @@ fn source_in(tag: u64, x: u64, offset: u64) -> Source
     ensures { result ≡ source_in tag x offset }
 {
     match tag {
-        0 => Source::Constant(x),
+        CONSTANT => Source::Constant(x),
         _ => Source::Storage(ByteStorage {
             storage: StorageId(x),
             offset,
@@ -86,7 +116,7 @@ fn bit_in(tag: u64, x: u64) -> BitOperand
     ensures { result ≡ bit_in tag x }
 {
     match tag {
-        0 => BitOperand::Constant(x),
+        CONSTANT => BitOperand::Constant(x),
         _ => BitOperand::Storage(StorageId(x)),
     }
 }
@@ -100,9 +130,9 @@ pub fn value_at(stack: &[u64], at: usize) -> Value
     let a = word(stack, at + 2);
     let b = word(stack, at + 3);
     let repr = match word(stack, at + 1) {
-        0 => Repr::Unit,
-        1 => Repr::Bit(bit_in(a, b)),
-        2 => Repr::Bytes(Bytes {
+        UNIT => Repr::Unit,
+        BIT => Repr::Bit(bit_in(a, b)),
+        BYTES => Repr::Bytes(Bytes {
             source: source_in(a, b, word(stack, at + 4)),
             count: word(stack, at + 5),
             total: word(stack, at + 6),

@@ -1,6 +1,6 @@
 -- The public functions' answers, by what they tested before.
 use Prim.Native.Nat.{ℕ}
-use mathlib.Core.Path.{◌≡◌, refl, ap, ◌∙◌}
+use mathlib.Core.Path.{◌≡◌, ap, ◌∙◌}
 use mathlib.Core.Bool.{false, ◌&&◌}
 use mathlib.Core.List.{List}
 use Rattle.std.specs.Prelude.{Option, None, Some, Result, Ok, Err, IsErrAnd, MatchResult, ◌≢◌, nat_le}
@@ -8,12 +8,11 @@ use Rattle.std.specs.Option.{ok_or}
 use Rattle.std.specs.Array.{IsWholeChunk}
 use Rattle.std.proofs.lemmas.Result.{err_from_is_err_and}
 use borrow.Author.Tests.{le-leb, lt-leb, eq-eqb, ne_eqb}
-use native.Mathlib.Omega.{arith}
-use lib.ListN.{length, drop, length-append}
-use lib.Seq.{take_at}
-use Rattle.spec.specs.Answer.{refused, accepted, fitted, left_in}
+use lib.ListN.{length}
+use Rattle.spec.specs.Answer.{refused, fitted}
 use Rattle.spec.specs.Answer as spec-answer
 use Rattle.answers.specs.declared.Refused.{Refused}
+use Rattle.answers.proofs.Laws.{refused_by, accepted_by}
 use Rattle.valves.specs.Maps.{mask_valves, list_valves, board_map}
 use Rattle.valves.specs.Tickets.{ticket_text, on_board, eight_bytes, of_map, mask_answer, list_answer}
 use Rattle.valves.specs.Refusals.{refusal_number}
@@ -28,32 +27,20 @@ pub because : {X : Type 0} (o : Option X) (e b : Refusal) → Err e ≡ ok_or o 
 because {X} o e b v n = let f : ◌≡◌ {A = Result X Refusal} (Err e) (Err b) = rw n at v in cc
 
 module _ (a : spec-answer.Answer) (l : List ℕ) where
-  -- a refusal writes nothing
-  refused_by : (e : Refusal) → a ≡ refused (refusal_number e) 0 → Answers a l l (Err (record { refusal = e; line = 0 }))
-  unfolding left_in
-  refused_by e q = rw q (record { answer = refl; left = refl; within = tt })
-
   module _ (r : Result ℕ (Refused Refusal)) (e : Refusal) (p : IsErrAnd r (λ x. x ≡ record { refusal = e; line = 0 })) where
     told : r ≡ Err (record { refusal = e; line = 0 })
     told = let q = err_from_is_err_and r p in q.1 ∙ ap Err q.2
 
     pub refuses : (b : Refusal) → e ≡ b → a ≡ refused (refusal_number b) 0 → Answers a l l r
-    refuses b g q = rw (told, g) (refused_by b q)
+    refuses b g q = rw (told, g) (refused_by _ a l (record { refusal = b; line = 0 }) q)
 
     pub too_long : (x l' : List ℕ) → Written x l l' (Err e) → a ≡ fitted (length l) x → Answers a l l' r
     unfolding fitted
-    too_long x l' w q = rw (told, w.0, w.2) (refused_by Refusal.LongTicket (q ∙ rw (lt-leb (length x) (length l) w.1, fitted)))
+    too_long x l' w q = rw w.2 (refuses Refusal.LongTicket w.0 (q ∙ rw (lt-leb (length x) (length l) w.1, fitted)))
 
   pub fits : (x l' : List ℕ) (k : ℕ) → Written x l l' (Ok k) → a ≡ fitted (length l) x → Answers a l l' (Ok k)
-  unfolding fitted left_in
-  fits x l' k w q =
-      let h : a ≡ accepted x = q ∙ rw (le-leb (length x) (length l) w.1, fitted) in
-      rw (h, w.0, w.2)
-      (record {
-        answer = ap accepted (take_at x (drop (length x) l) (length x) refl);
-        left = refl;
-        within = rw (length-append x (drop (length x) l)) (omega arith);
-      })
+  unfolding fitted
+  fits x l' k w q = accepted_by _ a l x l' k (q ∙ rw (le-leb (length x) (length l) w.1, fitted)) w.0 w.2
 
 -- ---------------------------------------------------------------- the tests
 

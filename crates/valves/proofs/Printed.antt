@@ -1,18 +1,13 @@
 -- The ticket put piece by piece, its length, and the answer where the buffer has room for it or has not.
-use Prim.Native.Nat.{ℕ, zero, suc, ◌+◌, ◌/◌, ◌%◌, ◌^◌, ◌≤◌, ◌<◌}
-use mathlib.Core.Path.{◌≡◌, refl, ap, ◌∙◌}
-use mathlib.Core.Bool.{Bool, true, false}
+use Prim.Native.Nat.{ℕ, ◌+◌, ◌^◌, ◌≤◌, ◌<◌}
+use mathlib.Core.Path.{◌≡◌, refl, ◌∙◌}
 use mathlib.Core.List.{List, ◌∷◌, ◌++◌, append-nil, append_assoc, []}
 use native.Mathlib.Omega.{arith}
-use native.Mathlib.Nat.{pow-suc}
-use lib.Dec.{ltb}
-use borrow.Author.Tests.{ltb-true, ltb-false}
-use lib.ListN.{length, drop, length-append}
-use lib.Seq.{sets-eq}
+use lib.ListN.{length, length-append}
 use Rattle.spec.specs.Text.{bytes, text, fields, line, line_feed, digits}
 use Rattle.spec.specs.Answer.{left_in}
-use Rattle.spec.proofs.Digits.{digits_one, digits_more}
 use Rattle.text.specs.Put.{Put, sat_below}
+use Rattle.text.proofs.Front.{digits_length, in_front}
 use Rattle.text.specs.Writes.{Writes, writes_then}
 use Rattle.text.specs.declared.writer.Writer.{Writer}
 use Rattle.std.specs.Prelude.{Ok, Err}
@@ -40,24 +35,13 @@ module _ {w w1 w2 w3 : Writer} where
 
 -- ---------------------------------------------------------------- the length
 
-digits_few : (k n : ℕ) → n < 10 ^ suc k → length (digits n) ≤ suc k
-digits_few zero n h = rw (digits_one n h) (omega arith)
-digits_few (suc k) n h = by (ltb n 10) refl (digits_few k (n / 10))
-  where
-    by : (t : Bool) → ltb n 10 ≡ t → (n / 10 < 10 ^ suc k → length (digits (n / 10)) ≤ suc k) → length (digits n) ≤ suc (suc k)
-    by true e ih = rw (digits_one n (ltb-true n 10 e)) (omega arith)
-    by false e ih =
-        let g = ltb-false n 10 e in
-        let i = ih (omega (arith, h, pow-suc 10 (suc k))) in
-        rw (digits_more n g, length-append (digits (n / 10)) ((48 + n % 10) ∷ [])) (omega arith)
-
 -- a number below 2 ^ 64 has at most 20 digits, so a ticket is short
 pub ticket_short : (n m : ℕ) → n ≤ 64 → m < 2 ^ 64 → length (ticket_text n m) ≤ 200
 unfolding ticket_text types_text storage_text nodes_text line fields
 ticket_short n m h g =
-    let a = digits_few 19 n (omega arith) in
-    let b = digits_few 19 (bytes_for n) (omega arith) in
-    let c = digits_few 19 m (omega arith) in
+    let a = digits_length n 19 (omega arith) in
+    let b = digits_length (bytes_for n) 19 (omega arith) in
+    let c = digits_length m 19 (omega arith) in
     simp length-append (omega arith)
 
 -- ---------------------------------------------------------------- the answer
@@ -73,5 +57,5 @@ module _ (x l : List ℕ) (short : length x ≤ 200) {s s' : List ℕ} {e : ℕ}
   unfolding left_in
   room h {l'} {r} a =
       let g : length x ≤ length l = omega (arith, long) in
-      let z : 0 + length x ≡ length x = omega arith in
-      (a.next ∙ sat_below (0 + length x) (omega arith) ∙ omega arith, g, a.text ∙ sets-eq x l 0 (omega arith) ∙ ap (λ (k : ℕ). x ++ drop k l) z)
+      let f = in_front a g in
+      (f.0, g, f.1)

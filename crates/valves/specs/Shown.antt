@@ -1,20 +1,13 @@
 -- The code's answer as the definitions': an accepted ticket is as many bytes as it says, of what the buffer then holds.
-use Rattle.std.specs.Prelude.{ℕ, ◌≤◌, ◌<◌, ◌≡◌, List, length, take, Result, Ok, Err}
-use Rattle.spec.specs.Answer.{Answer, refused, accepted, left_in}
+use Rattle.std.specs.Prelude.{ℕ, ◌≤◌, ◌<◌, ◌≡◌, List, length, Result, Ok, Err}
+use Rattle.spec.specs.Answer.{Answer, accepted, left_in}
 use Rattle.answers.specs.declared.Refused.{Refused}
-use Rattle.answers.specs.Answers.{Within}
+use Rattle.answers.specs.Answers.{AnswersBy}
 use Rattle.valves.specs.Refusals.{refusal_number}
 use Rattle.valves.specs.declared.refusal.Refusal.{Refusal}
 
-abbrev pub shown : Result ℕ (Refused Refusal) → List ℕ → Answer
-shown (Err e) buffer = refused (refusal_number e.refusal) e.line
-shown (Ok k) buffer = accepted (take k buffer)
-
--- the answer is a, its length with it, and every byte of the buffer is settled
-pub record Answers (a : Answer) (buffer buffer' : List ℕ) (r : Result ℕ (Refused Refusal)) : Type 0 where
-  pub answer : shown r buffer' ≡ a
-  pub left : buffer' ≡ left_in a buffer
-  pub within : Within r buffer'
+abbrev pub Answers : Answer → List ℕ → List ℕ → Result ℕ (Refused Refusal) → Type 0
+Answers = AnswersBy refusal_number
 
 -- a text stands in front of the buffer, or is too long for it, and the buffer is as it was
 abbrev pub Written : List ℕ → List ℕ → List ℕ → Result ℕ Refusal → Type 0

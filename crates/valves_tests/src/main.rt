@@ -8,27 +8,26 @@ ghost use Rattle.cases.specs.Cases.{Right};
 ghost use Rattle.valves.specs.Shown.{Answers};
 ghost use Rattle.valves_tests.specs.Asked.{asked};
 
-use answers::{Numbered, Refused};
+use answers::Refused;
 use std::io::{self, Read};
 use valves::Refusal;
 
+// The kind is its number in a case's head, which names no kind but these two: one match, and an enum would be one more match of as many arms.
 fn ticket(kind: u64, n: u64, map: &[u8], buffer: &mut [u8]) -> Result<usize, Refused<Refusal>>
     ensures { Answers (asked kind n map.now (length buffer.old)) buffer.old buffer.new result }
 {
-    if kind == 0 {
-        return valves::mask_ticket(n, map, buffer);
+    match kind {
+        0 => valves::mask_ticket(n, map, buffer),
+        _ => valves::list_ticket(n, map, buffer),
     }
-    valves::list_ticket(n, map, buffer)
 }
 
 fn holds(kind: u64, n: u64, map: &[u8], expected: &[u8], buffer: &mut [u8]) -> bool
     ensures { Right (asked kind n map.now (length buffer.old)) expected.now result }
 {
     cases::fill(buffer);
-    match ticket(kind, n, map, buffer) {
-        Ok(k) => cases::accepted(k, expected, buffer),
-        Err(e) => cases::refused(e.refusal.number(), e.line, expected, buffer),
-    }
+    let answer = ticket(kind, n, map, buffer);
+    cases::judged(answer, expected, buffer)
 }
 
 // The entry is lent the first `room` bytes, and the others stay as they are.
@@ -42,12 +41,7 @@ fn holds_within(
 ) -> bool
     ensures { Right (asked kind n map.now room) expected.now result }
 {
-    if buffer.len() < room {
-        return false;
-    }
-    cases::fill(buffer);
-    let part = &mut buffer[..room];
-    holds(kind, n, map, expected, part) && cases::untouched(buffer, room)
+    cases::within(buffer, room, |part| holds(kind, n, map, expected, part))
 }
 
 // The next map, behind its head.
@@ -59,19 +53,14 @@ fn replay<R: Read>(reader: &mut R) -> Option<bool> {
     let mut map = [0; 1024];
     let mut expected = [0; 256];
     let mut buffer = [0; 256];
-    let size = size as usize;
-    let answer = answer as usize;
-    if !cases::read(reader, &mut map, size) || !cases::read(reader, &mut expected, answer) {
+    let Some(map) = cases::read(reader, &mut map, size as usize) else {
         return Some(false);
-    }
-    Some(holds_within(
-        kind,
-        n,
-        cases::first(&map, size),
-        cases::first(&expected, answer),
-        &mut buffer,
-        room as usize,
-    ))
+    };
+    let Some(expected) = cases::read(reader, &mut expected, answer as usize) else {
+        return Some(false);
+    };
+    let room = room as usize;
+    Some(holds_within(kind, n, map, expected, &mut buffer, room))
 }
 
 fn main(rt: HostRuntime) -> io::Result<()> {

@@ -6,8 +6,8 @@
 ghost use Rattle.std.specs.Prelude.{◌≡◌, slice_index};
 ghost use Rattle.wasm_tests.specs.Answers.{answer_of, is};
 
-mod answers;
 mod ops;
+mod outcomes;
 
 use cases::Tally;
 use std::io::{self, Read};
@@ -16,14 +16,14 @@ fn holds(case: &[u64; 5]) -> bool
     ensures { result ≡ is (answer_of (slice_index case.now 0) (slice_index case.now 1) (slice_index case.now 2) (slice_index case.now 3)) (slice_index case.now 4) }
 {
     let [op, x, y, z, expected] = *case;
-    answers::answer(op, x, y, z) == Some(expected)
+    outcomes::answer(op, x, y, z) == Some(expected)
 }
 
 // Every case of a table is run; a line that is none fails.
 fn run<R: Read>(reader: &mut R, count: u64) -> Tally
     ensures { result.ran ≡ count }
 {
-    let mut tally = Tally::new();
+    let mut tally = Tally::default();
     for _ in 0..count {
         let held = match cases::line_head(reader) {
             Some(Ok(case)) => holds(&case),

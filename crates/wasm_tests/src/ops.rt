@@ -1,5 +1,5 @@
 // Made by tools/wasm_vectors.py; not edited by hand.
-// The operations of each group of answers.rt; a case names group g's operation k by 16 * g + k.
+// The operations of each group of outcomes.rt; a case names group g's operation k by 16 * g + k.
 pub const IADD: u64 = 0;
 
 pub const ISUB: u64 = 1;

@@ -11,6 +11,7 @@ use ticket::ReadError;
 
 // 1 where the ticket is accepted: then `size` is the listing's length; 0 where it is refused: then `number` and `line` are the refusal's; 2 where
 // the words lent are too few. What does not apply is 0.
+// Numbers for the answer, and a parameter for each slice: the C interface has neither `Result` nor a struct of slices.
 pub fn wesknuft_lower_in(
     ticket: &[u8],
     buffer: &mut [u8],

@@ -22,26 +22,26 @@ returns-in_err-input c =
 pub returns-in_err-to : goal.returns-in_err-to
 unfolding lower_integer_unary value_bytes
 returns-in_err-to c =
-    let T = ticket_of c.args.tables.now in
+    let T = ticket_of c.args.tables.now.lines in
     some_meets bytes_of c.value_bytes.result _ _ _ (at_of c.args.h) c.value_bytes.ensures.bytes c.in_ok-input.ensures.value
     (new_stops T (at_of c.args.h) _ c.in_err-to.ensures c.from_residual-in_err-to.ensures.1)
 
 pub unary_instructions-requires : goal.unary_instructions-requires
-unary_instructions-requires c = let T = ticket_of c.args.tables.now in (search rules, room_fill T c.args.tables.now.readable (at_of c.args.h) c.requires.1 c.in_ok-to.ensures)
+unary_instructions-requires c = let T = ticket_of c.args.tables.now.lines in (search rules, room_fill T c.args.tables.now.readable (at_of c.args.h) c.requires.1 c.in_ok-to.ensures)
 
 pub returns-in_err-map_err : goal.returns-in_err-map_err
 unfolding lower_integer_unary value_bytes
 returns-in_err-map_err c =
-    let T = ticket_of c.args.tables.now in
+    let T = ticket_of c.args.tables.now.lines in
     let w = told_err _ c.unary_instructions.result _ c.in_err-map_err.ensures.cases in
     let made = w.1.1 in
     let e : c.in_err-map_err.field-0.0 ≡ record { refusal = w.0; line = c.args.h.line } = search rules in
     some_meets bytes_of c.value_bytes.result _ _ _ (at_of c.args.h) c.value_bytes.ensures.bytes c.in_ok-input.ensures.value
-    (rw c.unary_form.ensures (filled_stops T (at_of c.args.h) c.requires.1.node c.in_ok-to.ensures (λ ds. unary_instructions (ticket_of c.args.tables.now) (unary_form_of c.unary_form.result) c.args.h.ty ds (bytes_of c.in_ok-input.input)) (meets_refused (c.unary_instructions.ensures T c.args.h.ty c.integer_width-width.ensures) w.1.0).0 e c.from_residual-in_err-map_err.ensures.1))
+    (rw c.unary_form.ensures (filled_stops T (at_of c.args.h) c.requires.1.node c.in_ok-to.ensures (λ ds. unary_instructions (ticket_of c.args.tables.now.lines) (unary_form_of c.unary_form.result) c.args.h.ty ds (bytes_of c.in_ok-input.input)) (meets_refused (c.unary_instructions.ensures T c.args.h.ty c.integer_width-width.ensures) w.1.0).0 e c.from_residual-in_err-map_err.ensures.1))
 
 pub masked-requires : goal.masked-requires
 masked-requires c =
-    let T = ticket_of c.args.tables.now in
+    let T = ticket_of c.args.tables.now.lines in
     let e : c.unary_instructions.result ≡ Ok tt = search rules in (
       c.in_ok-to.ensures.shown.count,
       room_filled T c.args.tables.now.readable (at_of c.args.h) c.requires.1 c.in_ok-to.ensures (meets_done (c.unary_instructions.ensures T c.args.h.ty c.integer_width-width.ensures) e),
@@ -50,7 +50,7 @@ masked-requires c =
 pub returns : goal.returns
 unfolding lower_integer_unary value_bytes
 returns c =
-    let T = ticket_of c.args.tables.now in
+    let T = ticket_of c.args.tables.now.lines in
     let e : c.unary_instructions.result ≡ Ok tt = search rules in
     some_meets bytes_of c.value_bytes.result _ _ _ (at_of c.args.h) c.value_bytes.ensures.bytes c.in_ok-input.ensures.value
-    (rw c.unary_form.ensures (filled_meets T (at_of c.args.h) c.requires.1.node c.in_ok-to.ensures (λ ds. unary_instructions (ticket_of c.args.tables.now) (unary_form_of c.unary_form.result) c.args.h.ty ds (bytes_of c.in_ok-input.input)) (meets_done (c.unary_instructions.ensures T c.args.h.ty c.integer_width-width.ensures) e) c.masked.ensures))
+    (rw c.unary_form.ensures (filled_meets T (at_of c.args.h) c.requires.1.node c.in_ok-to.ensures (λ ds. unary_instructions (ticket_of c.args.tables.now.lines) (unary_form_of c.unary_form.result) c.args.h.ty ds (bytes_of c.in_ok-input.input)) (meets_done (c.unary_instructions.ensures T c.args.h.ty c.integer_width-width.ensures) e) c.masked.ensures))

@@ -1,6 +1,7 @@
 -- `conversions::lower_pointer_offset` meets its contract: the base's bytes, then the offset's, then a pointer, a carry, and two sums.
-use Rattle.std.proofs.Common.{refl, arith}
+use Rattle.std.proofs.Common.{refl, arith, rules}
 use Rattle.answers.specs.declared.Refusal.{Refusal}
+use Rattle.spec.specs.Lir.{add}
 use Rattle.spec.specs.Operands.{value_bytes}
 use Rattle.spec.specs.Select.{lower_pointer_offset}
 use Rattle.lir.specs.Abstract.{bytes_of}
@@ -34,4 +35,4 @@ returns c =
     (some_meets _ _ _ _ _ (at_of c.args.h) c.value_bytes-2.ensures.bytes c.in_ok-offset.ensures.value
     (rw c.pointer_value.ensures
     (offset_meets T R c.allocate_pointer-storage.result c.allocate_carry-carry.result c.in_ok-base.base c.in_ok-offset.offset (at_of c.args.h) nd (omega (arith, c.if-base-lt2.false))
-    c.resize.ensures c.resize-2.ensures c.allocate_pointer-storage.ensures c.allocate_carry-carry.ensures c.add_bytes.ensures)))
+    c.resize.ensures c.resize-2.ensures c.allocate_pointer-storage.ensures c.allocate_carry-carry.ensures (c.carried_bytes.ensures.emits add (λ d x y i u k p. search rules)))))

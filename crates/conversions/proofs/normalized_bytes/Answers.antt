@@ -1,6 +1,6 @@
 -- `conversions::normalized_bytes` meets its contract: the bytes themselves, or a masked copy.
-use Rattle.std.proofs.Common.{refl, ◌∙◌}
-use Rattle.spec.specs.Lir.{value, bytes_value}
+use Rattle.std.proofs.Common.{refl, ◌∙◌, rules}
+use Rattle.spec.specs.Lir.{value, bytes_value, copy_byte}
 use Rattle.lir.specs.Abstract.{bytes_of}
 use Rattle.tables.specs.Ticket.{ticket_of}
 use Rattle.reads.specs.Reading.{at_of}
@@ -12,22 +12,22 @@ use Rattle.conversions.proofs.normalized_bytes.Goals as goal
 pub returns-then-odd_bits-eq0 : goal.returns-then-odd_bits-eq0
 returns-then-odd_bits-eq0 c =
     let a = c.args in
-    rw (normal_all (ticket_of a.tables.now) a.h.ty (bytes_of a.b) (at_of a.h) _ (c.odd_bits.ensures.is ∙ c.if-odd_bits-eq0.true)) (leaf_meets a.l.now _ (value a.h.ty (bytes_value (bytes_of a.b))) refl c.requires.0 refl)
+    rw (normal_all (ticket_of a.tables.now.lines) a.h.ty (bytes_of a.b) (at_of a.h) _ (c.odd_bits.ensures.is ∙ c.if-odd_bits-eq0.true)) (leaf_meets a.l.now _ (value a.h.ty (bytes_value (bytes_of a.b))) refl c.requires.0 refl)
 
-pub copy_bytes-requires : goal.copy_bytes-requires
-copy_bytes-requires c = (c.requires.0, room_new c.args.tables.now.readable c.requires.1 c.in_ok-to.ensures)
+pub each_byte-requires-clause-room : goal.each_byte-requires-clause-room
+each_byte-requires-clause-room c = (c.requires.0, room_new c.args.tables.now.readable c.requires.1 c.in_ok-to.ensures)
 
 pub masked-requires : goal.masked-requires
-masked-requires c = (c.in_ok-to.ensures.shown.count, room_masked c.args.tables.now.readable c.requires.1 c.in_ok-to.ensures c.copy_bytes.ensures (copies_few c.in_ok-to.to c.args.b))
+masked-requires c = (c.in_ok-to.ensures.shown.count, room_masked c.args.tables.now.readable c.requires.1 c.in_ok-to.ensures (c.each_byte.ensures.emits copy_byte (λ x y k p. search rules)) (copies_few c.in_ok-to.to c.args.b))
 
 pub returns-in_err-to : goal.returns-in_err-to
 returns-in_err-to c =
     let a = c.args in
-    rw (normal_odd (ticket_of a.tables.now) a.h.ty (bytes_of a.b) (at_of a.h) _ a.tables.now.readable c.odd_bits.ensures.is c.if-odd_bits-eq0.false)
-    (filled_stops (copies (bytes_of a.b)) (masked (ticket_of a.tables.now)) c.in_err-to.ensures c.from_residual.ensures.1)
+    rw (normal_odd (ticket_of a.tables.now.lines) a.h.ty (bytes_of a.b) (at_of a.h) _ a.tables.now.readable c.odd_bits.ensures.is c.if-odd_bits-eq0.false)
+    (filled_stops (copies (bytes_of a.b)) (masked (ticket_of a.tables.now.lines)) c.in_err-to.ensures c.from_residual.ensures.1)
 
 pub returns : goal.returns
 returns c =
     let a = c.args in
-    rw (normal_odd (ticket_of a.tables.now) a.h.ty (bytes_of a.b) (at_of a.h) _ a.tables.now.readable c.odd_bits.ensures.is c.if-odd_bits-eq0.false)
-    (filled_meets (copies (bytes_of a.b)) (masked (ticket_of a.tables.now)) c.requires.1.node c.in_ok-to.ensures c.copy_bytes.ensures c.masked.ensures)
+    rw (normal_odd (ticket_of a.tables.now.lines) a.h.ty (bytes_of a.b) (at_of a.h) _ a.tables.now.readable c.odd_bits.ensures.is c.if-odd_bits-eq0.false)
+    (filled_meets (copies (bytes_of a.b)) (masked (ticket_of a.tables.now.lines)) c.requires.1.node c.in_ok-to.ensures (c.each_byte.ensures.emits copy_byte (λ x y k p. search rules)) c.masked.ensures)

@@ -17,4 +17,4 @@ unfolding resized value_bytes
 returns c =
     let t = c.args.tables.now in
     some_meets _ _ _ _ _ (at_of c.args.h) c.value_bytes.ensures.bytes c.in_ok-b.ensures.value
-    (rw (size_here t.rows.now t.lists.now t.counts c.args.h.ty ∙ sym c.type_size.ensures, ← c.resize.ensures.is) c.normalized_bytes.ensures)
+    (rw (size_here t.lines.rows.now t.lines.lists.now t.lines.counts c.args.h.ty ∙ sym c.type_size.ensures, ← c.resize.ensures.is) c.normalized_bytes.ensures)

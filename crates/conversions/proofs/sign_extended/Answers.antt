@@ -26,11 +26,11 @@ pub returns-in_err-to : goal.returns-in_err-to
 unfolding sign_extended integer_width value_bytes masked
 returns-in_err-to c =
     some_meets _ _ _ _ _ (at_of c.args.h) (wide c.args.v c.integer_width.ensures) c.in_ok-width.ensures.value
-    (some_meets _ _ _ _ _ (at_of c.args.h) c.value_bytes.ensures.bytes c.in_ok-b.ensures.value (filled_stops (extends c.in_ok-width.width (bytes_of c.in_ok-b.b)) (masked (ticket_of c.args.tables.now)) c.in_err-to.ensures c.from_residual-in_err-to.ensures.1))
+    (some_meets _ _ _ _ _ (at_of c.args.h) c.value_bytes.ensures.bytes c.in_ok-b.ensures.value (filled_stops (extends c.in_ok-width.width (bytes_of c.in_ok-b.b)) (masked (ticket_of c.args.tables.now.lines)) c.in_err-to.ensures c.from_residual-in_err-to.ensures.1))
 
 pub returns : goal.returns
 unfolding sign_extended integer_width value_bytes masked
 returns c =
     some_meets _ _ _ _ _ (at_of c.args.h) (wide c.args.v c.integer_width.ensures) c.in_ok-width.ensures.value
     (some_meets _ _ _ _ _ (at_of c.args.h) c.value_bytes.ensures.bytes c.in_ok-b.ensures.value
-    (filled_meets (extends c.in_ok-width.width (bytes_of c.in_ok-b.b)) (masked (ticket_of c.args.tables.now)) c.requires.1.node c.in_ok-to.ensures c.sign_extend.ensures c.masked.ensures))
+    (filled_meets (extends c.in_ok-width.width (bytes_of c.in_ok-b.b)) (masked (ticket_of c.args.tables.now.lines)) c.requires.1.node c.in_ok-to.ensures c.sign_extend.ensures c.masked.ensures))

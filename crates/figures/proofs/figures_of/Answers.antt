@@ -1,13 +1,13 @@
 -- 41 where no line was counted.
-use Rattle.figures.proofs.Gathered.{none_counted, some_counted, held_some}
-use Rattle.figures.proofs.Printing.{refuses}
+use native.Mathlib.Omega.{arith}
+use Rattle.answers.proofs.Laws.{refused_by}
+use Rattle.figures.proofs.Gathered.{none_counted, some_counted}
 use Rattle.figures.proofs.figures_of.Goals as goal
 
-pub returns-then-c-eq0 : goal.returns-then-c-eq0
-returns-then-c-eq0 c = refuses _ _ _ (none_counted _ _ c.if-c-eq0.true)
+pub returns-in-None : goal.returns-in-None
+returns-in-None c = refused_by _ _ _ _ (none_counted _ _ c.in-None.ensures)
 
-pub place-requires : goal.place-requires
-place-requires c = held_some _ c.requires c.if-c-eq0.false
-
-pub returns : goal.returns
-returns c = rw (some_counted _ c.args.c c.if-c-eq0.false) c.place.ensures
+pub returns-in-Some : goal.returns-in-Some
+returns-in-Some c =
+    let n = rw c.in-Some.ensures at c.in-Some.annex.instructions.some in
+    rw (some_counted _ c.args.c (λ e. omega (arith, n)), ← c.in-Some.ensures) c.write.ensures

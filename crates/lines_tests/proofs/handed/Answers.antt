@@ -13,5 +13,5 @@ pub returns-in-Err : goal.returns-in-Err
 returns-in-Err c =
     record {
       bytes_are = λ t. bytes_are _ _ _ _ _ _ c.storage_part.ensures c.same.ensures c.if-not-same.false;
-      number_is = λ t. number_err _ _ _ _ _ _ _ c.in-Err.ensures c.number.ensures c.equal.ensures t;
+      number_is = λ t. number_err _ _ _ _ _ _ _ c.in-Err.ensures c.number.ensures c.eq.ensures t;
     }

@@ -1,13 +1,16 @@
--- Each answer is shown as the definition shows it; the tests of room change nothing.
-use Rattle.cases.proofs.Laws.{right_not, right_behind, filled_length, right_refused, right_accepted}
+-- The answer is shown as the definition shows it; the tests of room change nothing.
+use Rattle.std.proofs.Common.{refl}
+use Rattle.answers.specs.Refusals.{refusal_number}
+use Rattle.answers.specs.Answers.{shown}
+use Rattle.cases.proofs.Laws.{filled_length, right_behind, right_judged}
 use Rattle.listing_tests.proofs.holds.Goals as goal
 
-pub returns-in-Err : goal.returns-in-Err
-returns-in-Err c = rw (← filled_length c.fill.ensures) (right_refused (rw c.number.ensures at c.refused.ensures) (rw c.in-Err.is at c.lower.ensures.answer))
+pub returns-then-is_err : goal.returns-then-is_err
+returns-then-is_err c =
+    rw (← filled_length c.fill.ensures)
+    (right_behind (right_judged refusal_number shown c.lower-answer.result _ (λ n. refl) (λ e. refl) c.judged.ensures c.lower-answer.ensures.answer) c.if-judged.true)
 
-pub returns-then-accepted : goal.returns-then-accepted
-returns-then-accepted c = rw (← filled_length c.fill.ensures)
-    (right_behind (right_accepted c.accepted.ensures (rw c.in-Ok.is at c.lower.ensures.answer)) c.if-accepted.true)
-
-pub returns-else-accepted : goal.returns-else-accepted
-returns-else-accepted c = rw c.if-accepted.false right_not
+pub returns-else-is_err : goal.returns-else-is_err
+returns-else-is_err c =
+    rw (← filled_length c.fill.ensures)
+    (right_behind (right_judged refusal_number shown c.lower-answer.result _ (λ n. refl) (λ e. refl) c.judged.ensures c.lower-answer.ensures.answer) c.if-judged.true)

@@ -11,7 +11,7 @@ use Rattle.places.proofs.sizes_before.Goals as goal
 
 pub overflow_add-total : goal.overflow_add-total
 overflow_add-total c =
-    let lists = c.args.tables.now.lists.now in
-    let size = type_size (ticket_of c.args.tables.now) in
+    let lists = c.args.tables.now.lines.lists.now in
+    let size = type_size (ticket_of c.args.tables.now.lines) in
     let added : c.type_size-total.result ≡ size (get_or lists (c.args.start + c.loop-i.i) 0) = rw (c.type_size-total.ensures, c.list_at.ensures, size_here) in
     omega (arith, sum_run_more size lists c.args.start c.loop-i.i, sum_run_at_most size lists c.args.start (c.loop-i.i + 1) c.args.n (omega arith))

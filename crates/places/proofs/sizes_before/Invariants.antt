@@ -6,4 +6,4 @@ use Rattle.tables.specs.Ticket.{ticket_of}
 use Rattle.places.proofs.sizes_before.Given as goal
 
 abbrev pub invariant-loop-i : goal.invariant-loop-i
-invariant-loop-i l = l.total ≡ sum (type_size (ticket_of l.tables)) (run l.tables.lists.now l.start l.i)
+invariant-loop-i l = l.total ≡ sum (type_size (ticket_of l.tables.lines)) (run l.tables.lines.lists.now l.start l.i)

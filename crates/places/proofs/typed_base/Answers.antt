@@ -8,7 +8,7 @@ pub invariant_of-result : goal.invariant_of-result
 unfolding type_size
 invariant_of-result c = record {
   offset_most = c.requires;
-  size_most = rw (c.type_size.ensures, ← size_here c.args.tables.now.rows.now c.args.tables.now.lists.now c.args.tables.now.counts c.args.ty) (c.args.tables.now.readable.types.size_most c.args.ty);
+  size_most = rw (c.type_size.ensures, ← size_here c.args.tables.now.lines.rows.now c.args.tables.now.lines.lists.now c.args.tables.now.lines.counts c.args.ty) (c.args.tables.now.readable.types.size_most c.args.ty);
 }
 
 pub returns-clause-base : goal.returns-clause-base

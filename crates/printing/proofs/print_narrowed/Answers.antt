@@ -1,13 +1,7 @@
 -- The lines of the marks so far are written.
-use Rattle.std.proofs.Common.{◌∙◌, inl, inr, refl, arith}
-use Rattle.printing.proofs.Laws.{marking_none, marking_more, marking_same, marking_all}
+use Rattle.std.proofs.Common.{◌∙◌, inl, inr, arith}
+use Rattle.printing.proofs.Laws.{marking_more, marking_same, marking_all}
 use Rattle.printing.proofs.print_narrowed.Goals as goal
-
-pub loop-k-init : goal.loop-k-init
-loop-k-init c =
-    let e = c.zip-k-items.ensures in
-    let a = c.args in
-    rw (c.into_iter-k-iterator.ensures.into_iter_gives, e.first, e.second.0) (refl, marking_none a.w.now a.n a.narrowed.now (omega arith) (omega (arith, c.type_inv.w)))
 
 pub loop-k-preserved-then-mark-ne0 : goal.loop-k-preserved-then-mark-ne0
 loop-k-preserved-then-mark-ne0 c =

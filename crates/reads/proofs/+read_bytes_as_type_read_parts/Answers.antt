@@ -32,7 +32,7 @@ pub read_bytes_as_type-returns-in-Bool : goal.read_bytes_as_type-returns-in-Bool
 unfolding read_word
 read_bytes_as_type-returns-in-Bool t c =
     let a = c.args in
-    rw (read_here a.tables.now a.ty TypeKind.Bool (sym c.in-Bool.ensures) a.depth a.storage.0 a.o c.if-depth-eq0.false) (c.read_bool.ensures (ticket_of a.tables.now) (at_of a.h) c.requires.node)
+    rw (read_here a.tables.now a.ty TypeKind.Bool (sym c.in-Bool.ensures) a.depth a.storage.0 a.o c.if-depth-eq0.false) (c.read_bool.ensures (ticket_of a.tables.now.lines) (at_of a.h) c.requires.node)
 
 pub read_bytes_as_type-returns-in-Bits : goal.read_bytes_as_type-returns-in-Bits
 read_bytes_as_type-returns-in-Bits t c =
@@ -48,7 +48,7 @@ read_bytes_as_type-returns-in-Float t c =
 pub read_bytes_as_type-read_parts-requires : goal.read_bytes_as_type-read_parts-requires
 read_bytes_as_type-read_parts-requires t c =
     let a = c.args in
-    let parted : Parted (ticket_of a.tables.now) a.tables.now.lists.now a.ty c.match-type_at.parts.0 c.match-type_at.parts.1 = elim c.match-type_at.branch [
+    let parted : Parted (ticket_of a.tables.now.lines) a.tables.now.lines.lists.now a.ty c.match-type_at.parts.0 c.match-type_at.parts.1 = elim c.match-type_at.branch [
       | read_bytes_as_type-in-Array w ↦ rw w.parts-is (parted_array a.tables.now a.ty w.in-Array.is c.type_at.ensures)
       | read_bytes_as_type-in-Struct w ↦ rw w.parts-is (parted_fields a.tables.now a.ty w.in-Struct.is c.type_at.ensures)
       | read_bytes_as_type-in-Struct-2 w ↦ rw w.parts-is (parted_fields a.tables.now a.ty w.in-Struct.is c.type_at.ensures)
@@ -58,7 +58,7 @@ read_bytes_as_type-read_parts-requires t c =
 pub read_bytes_as_type-returns-in_err-read_parts : goal.read_bytes_as_type-returns-in_err-read_parts
 read_bytes_as_type-returns-in_err-read_parts t c =
     let a = c.args in
-    let parted : Parted (ticket_of a.tables.now) a.tables.now.lists.now a.ty c.match-type_at.parts.0 c.match-type_at.parts.1 = elim c.match-type_at.branch [
+    let parted : Parted (ticket_of a.tables.now.lines) a.tables.now.lines.lists.now a.ty c.match-type_at.parts.0 c.match-type_at.parts.1 = elim c.match-type_at.branch [
       | read_bytes_as_type-in-Array w ↦ rw w.parts-is (parted_array a.tables.now a.ty w.in-Array.is c.type_at.ensures)
       | read_bytes_as_type-in-Struct w ↦ rw w.parts-is (parted_fields a.tables.now a.ty w.in-Struct.is c.type_at.ensures)
       | read_bytes_as_type-in-Struct-2 w ↦ rw w.parts-is (parted_fields a.tables.now a.ty w.in-Struct.is c.type_at.ensures)
@@ -68,7 +68,7 @@ read_bytes_as_type-returns-in_err-read_parts t c =
 pub read_bytes_as_type-returns : goal.read_bytes_as_type-returns
 read_bytes_as_type-returns t c =
     let a = c.args in
-    let parted : Parted (ticket_of a.tables.now) a.tables.now.lists.now a.ty c.match-type_at.parts.0 c.match-type_at.parts.1 = elim c.match-type_at.branch [
+    let parted : Parted (ticket_of a.tables.now.lines) a.tables.now.lines.lists.now a.ty c.match-type_at.parts.0 c.match-type_at.parts.1 = elim c.match-type_at.branch [
       | read_bytes_as_type-in-Array w ↦ rw w.parts-is (parted_array a.tables.now a.ty w.in-Array.is c.type_at.ensures)
       | read_bytes_as_type-in-Struct w ↦ rw w.parts-is (parted_fields a.tables.now a.ty w.in-Struct.is c.type_at.ensures)
       | read_bytes_as_type-in-Struct-2 w ↦ rw w.parts-is (parted_fields a.tables.now a.ty w.in-Struct.is c.type_at.ensures)
@@ -84,13 +84,13 @@ read_parts-returns-in_err-head t c = rest_refused c.loop-i.invariant c.loop-i-te
 pub read_parts-overflow_add-at : goal.read_parts-overflow_add-at
 read_parts-overflow_add-at t c =
     let s = rw c.ty-ty.ensures at c.type_size-at.ensures in
-    omega (arith, rest_reach c.loop-i.invariant c.loop-i-test.true, size_at_of c.args.tables.now (part_type c.args.tables.now.lists.now c.args.parts c.loop-i.i), s)
+    omega (arith, rest_reach c.loop-i.invariant c.loop-i-test.true, size_at_of c.args.tables.now (part_type c.args.tables.now.lines.lists.now c.args.parts c.loop-i.i), s)
 
 pub read_parts-loop-i-preserved : goal.read_parts-loop-i-preserved
 read_parts-loop-i-preserved t c =
     let T = c.args.tables.now in
     let s = rw c.ty-ty.ensures at c.type_size-at.ensures in
-    let e = s ∙ sym (size_at_of T (part_type T.lists.now c.args.parts c.loop-i.i)) in
+    let e = s ∙ sym (size_at_of T (part_type T.lines.lists.now c.args.parts c.loop-i.i)) in
     rw (e, c.store8.ensures, c.value_words.ensures) (rest_more c.loop-i.invariant c.loop-i-test.true T.readable.types (rw c.ty-ty.ensures at c.in_ok-head.ensures))
 
 pub read_parts-returns : goal.read_parts-returns

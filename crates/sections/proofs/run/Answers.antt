@@ -1,5 +1,4 @@
 -- The halves by what the run leaves, or its refusal.
-use Rattle.std.proofs.Common.{rules}
 use Rattle.tables.specs.Ticket.{ticket_of}
 use Rattle.values.specs.Left.{shown_done}
 use Rattle.sections.proofs.Laws.{storage_count, starts, printable, measured}
@@ -13,12 +12,12 @@ finish-m-requires c =
     let t = c.args.tables.now in
     let s = starts t c.new.ensures.begins (rw c.replace-code.ensures.value c.requires.0) in
     let d = shown_done c.lower_root.ensures c.in_ok-value.was in
-    printable t.counts.storages s (storage_count t.rows.now t.lists.now t.counts) d.v c.in_ok-value.value d.left d.shows
+    printable t.lines.counts.storages s (storage_count t.lines.rows.now t.lines.lists.now t.lines.counts) d.v c.in_ok-value.value d.left d.shows
 
 pub returns-clause-measures : goal.returns-clause-measures
 returns-clause-measures c =
     let t = c.args.tables.now in
     let s = starts t c.new.ensures.begins (rw c.replace-code.ensures.value c.requires.0) in
     let d = shown_done c.lower_root.ensures c.in_ok-value.was in
-    measured (ticket_of t) t.counts.storages s (storage_count t.rows.now t.lists.now t.counts) d c.finish-m.ensures
+    measured (ticket_of t.lines) t.lines.counts.storages s (storage_count t.lines.rows.now t.lines.lists.now t.lines.counts) d c.finish-m.ensures
     (rw c.replace-code.ensures.value c.requires.1) (rw c.replace-code.ensures.value c.requires.2)

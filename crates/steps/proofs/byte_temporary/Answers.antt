@@ -10,21 +10,21 @@ use Rattle.steps.proofs.Temporaries.{byte_bool, byte_none}
 use Rattle.steps.proofs.byte_temporary.Goals as goal
 
 pub returns-then-h-eq0 : goal.returns-then-h-eq0
-returns-then-h-eq0 c = record { shown = rw c.refuse.ensures (byte_bool (ticket_of c.args.tables.now) c.args.h.ty c.if-h-eq0.true, refl) }
+returns-then-h-eq0 c = record { shown = rw c.refuse.ensures (byte_bool (ticket_of c.args.tables.now.lines) c.args.h.ty c.if-h-eq0.true, refl) }
 
 pub returns-in_err-storage : goal.returns-in_err-storage
 returns-in_err-storage c =
-    let T = ticket_of c.args.tables.now in
+    let T = ticket_of c.args.tables.now.lines in
     let p = err_from_is_err_and c.from_residual.result c.from_residual.ensures.1 in
     let w = told_err _ c.allocate_temporary.result _ c.in_err-storage.ensures.cases in
     let made = w.1.1 in
     let e : c.in_err-storage.field-0.0 ≡ record { refusal = w.0; line = c.args.h.line } = search rules in
-    let size = size_here c.args.tables.now.rows.now c.args.tables.now.lists.now c.args.tables.now.counts c.args.h.ty ∙ sym c.type_size-count.ensures in
+    let size = size_here c.args.tables.now.lines.rows.now c.args.tables.now.lines.lists.now c.args.tables.now.lines.counts c.args.h.ty ∙ sym c.type_size-count.ensures in
     rw (p.1, p.2, e) (record { shown = (byte_none T c.args.h.ty (temporary_refused (c.allocate_temporary.ensures T size) w.1.0).0, refl) })
 
 pub returns : goal.returns
 returns c =
-    let T = ticket_of c.args.tables.now in
+    let T = ticket_of c.args.tables.now.lines in
     let e : c.allocate_temporary.result ≡ Ok c.in_ok-storage.storage = search rules in
-    let size = size_here c.args.tables.now.rows.now c.args.tables.now.lists.now c.args.tables.now.counts c.args.h.ty ∙ sym c.type_size-count.ensures in
+    let size = size_here c.args.tables.now.lines.rows.now c.args.tables.now.lines.lists.now c.args.tables.now.lines.counts c.args.h.ty ∙ sym c.type_size-count.ensures in
     record { shown = record { allocates = temporary_placed (c.allocate_temporary.ensures T size) e; bytes = c.if-h-eq0.false; count = sym size } }

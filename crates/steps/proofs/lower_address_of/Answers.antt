@@ -13,10 +13,10 @@ returns-in_err-base c =
     let w = told_err _ c.resolve_addressed_place.result _ c.in_err-base.ensures.cases in
     let made = w.1.1 in
     let e : c.in_err-base.field-0.0 ≡ record { refusal = w.0; line = c.args.h.line } = search rules in
-    λ nd. place_stops (base_from c.args.tables.now.lists.now) c.resolve_addressed_place.result _ (at_of c.args.h) c.resolve_addressed_place.ensures.step w.1.0 e c.from_residual.ensures.1
+    λ nd. place_stops (base_from c.args.tables.now.lines.lists.now) c.resolve_addressed_place.result _ (at_of c.args.h) c.resolve_addressed_place.ensures.step w.1.0 e c.from_residual.ensures.1
 
 pub returns : goal.returns
 unfolding lower_address_of
 returns c =
     let e : c.resolve_addressed_place.result ≡ Ok c.in_ok-base.base = search rules in
-    λ nd. place_meets (base_from c.args.tables.now.lists.now) c.resolve_addressed_place.result _ (at_of c.args.h) c.resolve_addressed_place.ensures.step e (c.storage_address.ensures nd)
+    λ nd. place_meets (base_from c.args.tables.now.lines.lists.now) c.resolve_addressed_place.result _ (at_of c.args.h) c.resolve_addressed_place.ensures.step e (c.storage_address.ensures c.args.tables.now.readable.types nd)

@@ -14,11 +14,11 @@ returns-in_err-found c =
     let w = told_err _ c.resolve_place.result _ c.in_err-found.ensures.cases in
     let made = w.1.1 in
     let e : c.in_err-found.field-0.0 ≡ record { refusal = w.0; line = c.args.h.line } = search rules in
-    place_stops location_from c.resolve_place.result _ (at_of c.args.h) c.resolve_place.ensures w.1.0 e c.from_residual.ensures.1
+    place_stops location_from c.resolve_place.result _ (at_of c.args.h) c.resolve_place.ensures.at w.1.0 e c.from_residual.ensures.1
 
 pub read_location-requires : goal.read_location-requires
-read_location-requires c = let e : c.resolve_place.result ≡ Ok c.in_ok-found.found = search rules in room_found c.args.tables.now _ _ _ c.resolve_place.ensures e c.requires
+read_location-requires c = let e : c.resolve_place.result ≡ Ok c.in_ok-found.found = search rules in room_found c.args.tables.now _ _ _ c.resolve_place.ensures.at e c.resolve_place.ensures.near c.requires
 
 pub returns : goal.returns
 unfolding lower_read
-returns c = let e : c.resolve_place.result ≡ Ok c.in_ok-found.found = search rules in place_meets location_from c.resolve_place.result _ (at_of c.args.h) c.resolve_place.ensures e c.read_location.ensures
+returns c = let e : c.resolve_place.result ≡ Ok c.in_ok-found.found = search rules in place_meets location_from c.resolve_place.result _ (at_of c.args.h) c.resolve_place.ensures.at e c.read_location.ensures

@@ -10,8 +10,8 @@ use Rattle.steps.proofs.lower_static_address.Goals as goal
 
 pub returns-in_err-p : goal.returns-in_err-p
 unfolding lower_static_address
-returns-in_err-p c = λ nd. none_stops placed_line c.static_at.result _ _ (at_of c.args.h) Refusal.UnknownPlace (nth_static _ _ _ _ ∙ c.static_at.ensures) c.in_err-p.ensures.value c.refuse.ensures c.from_residual.ensures.1
+returns-in_err-p c = λ tr nd. none_stops placed_line c.static_at.result _ _ (at_of c.args.h) Refusal.UnknownPlace (nth_static _ _ _ _ ∙ c.static_at.ensures) c.in_err-p.ensures.value c.refuse.ensures c.from_residual.ensures.1
 
 pub returns : goal.returns
 unfolding lower_static_address
-returns c = λ nd. some_meets placed_line c.static_at.result _ _ _ (at_of c.args.h) (nth_static _ _ _ _ ∙ c.static_at.ensures) c.in_ok-p.ensures.value (c.storage_address.ensures nd)
+returns c = λ tr nd. some_meets placed_line c.static_at.result _ _ _ (at_of c.args.h) (nth_static _ _ _ _ ∙ c.static_at.ensures) c.in_ok-p.ensures.value (c.storage_address.ensures tr nd)

@@ -1,6 +1,6 @@
 -- Form by form; an instruction of a width is refused without one.
-use Rattle.std.proofs.Common.{◌∷◌, [], arith}
-use Rattle.spec.specs.Lir.{integer_binary_bytes}
+use Rattle.std.proofs.Common.{◌∷◌, [], arith, rules}
+use Rattle.spec.specs.Lir.{add, subtract, integer_binary_bytes}
 use Rattle.spec.specs.Arithmetic.{binary_instructions, shifts}
 use Rattle.lir.specs.Abstract.{binary_op_of, shift_op_of, destinations_of, bytes_of}
 use Rattle.emission.specs.Appends.{keeps_all}
@@ -13,7 +13,7 @@ pub returns-in-Adding : goal.returns-in-Adding
 returns-in-Adding c =
     let o = c.args.o in
     λ T ty w. record {
-      shown = rw c.in-Adding.is (does_more (omega arith) (does_adding T ty o.to o.left o.right c.allocate_carry-carry.result c.allocate_carry-carry.ensures c.add_bytes.ensures));
+      shown = rw c.in-Adding.is (does_more (omega arith) (does_adding T ty o.to o.left o.right c.allocate_carry-carry.result c.allocate_carry-carry.ensures (c.carried_bytes.ensures.emits add (λ d x y i u k p. search rules))));
     }
 
 pub returns-in-Subtracting : goal.returns-in-Subtracting
@@ -22,7 +22,7 @@ returns-in-Subtracting c =
     λ T ty w. record {
       shown =
           rw c.in-Subtracting.is
-          (does_more (omega arith) (does_subtracting T ty o.to o.left o.right c.allocate_carry-borrow.result c.allocate_carry-borrow.ensures c.subtract_bytes.ensures));
+          (does_more (omega arith) (does_subtracting T ty o.to o.left o.right c.allocate_carry-borrow.result c.allocate_carry-borrow.ensures (c.carried_bytes-in-Subtracting.ensures.emits subtract (λ d x y i u k p. search rules))));
     }
 
 pub returns-in-Bytewise : goal.returns-in-Bytewise

@@ -1,8 +1,9 @@
--- The definition's list is a table of differences from zeros.
+-- A difference from zeros.
 use Rattle.std.proofs.Common.{rules}
-use Rattle.emission.specs.Loops.{negates_table}
+use Rattle.spec.specs.Lir.{subtract}
+use Rattle.emission.specs.Loops.{negates_carried}
 use Rattle.emission.proofs.emitter.Emitter.negate_bytes.Goals as goal
 
 pub returns : goal.returns
 returns c =
-    rw (negates_table c.args.d c.args.b c.args.carry, ← c.zero_bytes.ensures, ← c.min.ensures) (c.emit_each.ensures.emits _ (λ i k p. search rules))
+    rw (negates_carried c.args.d c.args.b c.args.carry.0, ← c.zero_bytes.ensures) (c.carried_bytes.ensures.emits subtract (λ d x y i u k p. search rules))

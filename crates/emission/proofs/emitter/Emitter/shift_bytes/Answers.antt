@@ -3,19 +3,9 @@ use Rattle.std.proofs.Common.{sym, ap, ◌∙◌, arith}
 use Rattle.spec.proofs.Lengths.{length_bytes_from}
 use Rattle.lir.specs.Abstract.{shift_op_of, destinations_of, bytes_of}
 use Rattle.emission.specs.Kinds.{direction_option}
-use Rattle.emission.specs.Appends.{room_less}
-use Rattle.emission.specs.Loops.{turned_one, shift_plain, shift_turned, shift_whole, first_from}
+use Rattle.emission.specs.Loops.{turned_one, shift_turned, first_from}
 use Rattle.emission.specs.Operands.{length_bytes, first_byte}
 use Rattle.emission.proofs.emitter.Emitter.shift_bytes.Goals as goal
-
-pub returns-in_default : goal.returns-in_default
-returns-in_default c = rw (shift_plain _ _ _ _ _ (sym c.rotate_direction.ensures ∙ ap direction_option c.in_default.is)) c.whole_shift.ensures
-
-pub byte_rotates-requires : goal.byte_rotates-requires
-byte_rotates-requires c =
-    let o = c.args.o in
-    let t = turned_one (shift_op_of c.args.op) c.args.width (destinations_of o.to) (bytes_of o.left) (bytes_of o.right) (sym c.byte_rotate.ensures ∙ c.if-byte_rotate.true) in
-    (omega arith, room_less (omega (arith, t.0, length_bytes_from o.to.storage.0 0 o.to.count)) c.requires)
 
 pub returns-then-byte_rotate : goal.returns-then-byte_rotate
 returns-then-byte_rotate c =
@@ -28,8 +18,3 @@ returns-then-byte_rotate c =
       first_byte o.left (omega (arith, t.1, length_bytes o.left)),
     )
     (rw (c.byte_at-first.ensures, c.lowest_byte.ensures) at c.byte_rotates.ensures)
-
-pub returns-else-byte_rotate : goal.returns-else-byte_rotate
-returns-else-byte_rotate c =
-    rw (shift_whole _ _ _ _ _ _ (sym c.rotate_direction.ensures ∙ ap direction_option c.in-Some.is) (sym c.byte_rotate.ensures ∙ c.if-byte_rotate.false))
-    c.whole_shift-else-byte_rotate.ensures

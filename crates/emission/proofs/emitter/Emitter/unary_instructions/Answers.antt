@@ -1,11 +1,11 @@
 -- Form by form; an instruction of a width is refused without one.
-use Rattle.std.proofs.Common.{◌∷◌, [], arith}
-use Rattle.spec.specs.Lir.{integer_unary_bytes}
+use Rattle.std.proofs.Common.{◌∷◌, [], arith, rules}
+use Rattle.spec.specs.Lir.{not_byte, integer_unary_bytes}
 use Rattle.spec.specs.Arithmetic.{unary_instructions}
 use Rattle.lir.specs.Abstract.{unary_op_of, destinations_of, bytes_of}
 use Rattle.emission.specs.Appends.{keeps_all}
 use Rattle.emission.specs.Does.{does_more, does_emits}
-use Rattle.emission.specs.Forms.{does_negating, not_few, codes_width, codes_refused}
+use Rattle.emission.specs.Forms.{does_negating, each_few, codes_width, codes_refused}
 use Rattle.emission.proofs.emitter.Emitter.unary_instructions.Goals as goal
 
 pub returns-in-Negating : goal.returns-in-Negating
@@ -18,7 +18,7 @@ returns-in-Negating c =
 pub returns-in-Inverting : goal.returns-in-Inverting
 unfolding unary_instructions
 returns-in-Inverting c =
-    λ T ty w. record { shown = rw c.in-Inverting.is (does_emits (omega (arith, not_few c.args.d c.args.b)) c.not_bytes.ensures) }
+    λ T ty w. record { shown = rw c.in-Inverting.is (does_emits (omega (arith, each_few c.args.d c.args.b not_byte)) (c.each_byte.ensures.emits not_byte (λ x y k p. search rules))) }
 
 pub returns-in_default : goal.returns-in_default
 unfolding unary_instructions

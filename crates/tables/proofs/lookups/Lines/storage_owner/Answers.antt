@@ -1,0 +1,6 @@
+-- The tables are small enough.
+use native.Mathlib.Omega.{arith}
+use Rattle.tables.proofs.lookups.Lines.storage_owner.Goals as goal
+
+pub number-requires : goal.number-requires
+number-requires c = omega (arith, c.args.self.now.sized.storages)

@@ -1,7 +1,0 @@
--- The tables are small enough.
-use native.Mathlib.Omega.{arith}
-use Rattle.tables.proofs.Laws.{readable_sized}
-use Rattle.tables.proofs.lookups.Tables.node_type.Goals as goal
-
-pub number-requires : goal.number-requires
-number-requires c = omega (arith, (readable_sized _ _ _ c.args.self.now.readable).nodes)

@@ -1,7 +1,0 @@
--- `tables::word` meets its contract: past the end the list's default stands.
-use lib.ListN.{get_or-eq_default}
-use mathlib.Core.Path.{sym}
-use Rattle.tables.proofs.word.Goals as goal
-
-pub returns-else-i-s : goal.returns-else-i-s
-returns-else-i-s c = sym (get_or-eq_default c.args.s.now 0 {n = c.args.i} c.if-i-s.false)
