@@ -7,13 +7,14 @@ SAMPLES are folders of sample tickets, each NAME.in with its answer NAME.out; wh
 OUT is the crate's folder (default: crates/listing_tests beside this script's folder). Written are stdin, the tickets with their answers, and stdout, what the program must print. A ticket is a header
 of 16 bytes, `LENGTH,LENGTH` and line feeds behind it, then the ticket's bytes and the answer's: a listing, or the line `refused,NUMBER,LINE`.
 
-The samples are 1,783 tickets answered by the unchanged Rust: `lower_expression` of docs/src lowered them, and a program written from
-documents 01 and 02 did the reading, the refusals' lines, the printing and the node of each instruction. Their kinds, by name: typed and deep (rightly typed, nested), single (one
+The samples are 2,183 tickets answered by the unchanged Rust: `lower_expression` of docs/src lowered them, and a program written from
+documents 01 and 02 did the reading, the refusals' lines, the printing, the node of each instruction, and what a select that the Rust refuses
+does with two bits for a byte. Their kinds, by name: typed and deep (rightly typed, nested), single (one
 operation at width 8, 16, 32 or 64), singleany (widths 1 to 64), wild and small (readable, of any types), limits (near the limits), broken
-(damaged text), large (up to document 02's limits: every fifth of them, for the file's length).
+(damaged text), large (up to document 02's limits: every fifth of them, for the file's length), records (selects over row records).
 
 The tickets below come from document 01: its edges, the lines 'Compared only', its temptations, and what no sample meets; and from document
-02's limits. Each answer was
+02's limits and selects. Each answer was
 worked out by hand from the paper and the Rust that it points to; no program made it.
 """
 import os
@@ -230,6 +231,37 @@ def limits():
     case("10 in a line before 8", HEAD + "t,opaque,9/" + "n,2,null/" * 1025, "refused,10,915/")
 
 
+def selects():
+    # Two bits for a byte: a bit storage of purpose 9, chosen into, and it becomes the byte.
+    case("two bits for the first byte of a pointer", HEAD + "n,1,bool,1/n,1,bool,0/n,1,bool,1/n,1,select,0,1,2/",
+         "storage,0,2,2,0,0,36/storage,1,0,0,9,1,36/i,selbit,1,#1,#1,#0,3/i,bittobyte,0.0,1,3/value,1,bytes,2,0.0,0.1/done,2,2,2/")
+    case("a record of a bool", HEAD + "t,struct,0/n,0,bool,1/n,2,aggregate,0/n,0,bool,0/n,2,aggregate,2/n,0,bool,1/n,2,select,1,3,4/",
+         "storage,0,1,0,0,0,36/storage,1,0,0,9,1,36/storage,2,0,0,8,2,36/i,selbit,1,#1,#1,#0,5/i,bittobyte,0.0,1,5/i,bytetobit,2,0.0,5/"
+         "value,2,aggregate,1/value,0,bit,2/done,3,3,3/")
+    case("each pair has its own bit, and is whole before the next",
+         HEAD + "t,struct,0,0/n,0,bool,1/n,0,bool,0/n,2,aggregate,0,1/n,0,bool,0/n,0,bool,1/n,2,aggregate,3,4/n,0,bool,1/n,2,select,2,5,6/",
+         "storage,0,2,2,0,0,36/storage,1,0,0,9,1,36/storage,2,0,0,9,2,36/storage,3,0,0,8,3,36/storage,4,0,0,8,4,36/"
+         "i,selbit,1,#1,#1,#0,7/i,bittobyte,0.0,1,7/i,selbit,2,#1,#0,#1,7/i,bittobyte,0.1,2,7/i,bytetobit,3,0.0,7/i,bytetobit,4,0.1,7/"
+         "value,2,aggregate,2/value,0,bit,3/value,0,bit,4/done,6,5,5/")
+    case("no record: bits 8 made of bits", HEAD + "t,bits,8/n,0,bool,1/n,2,convert,11,0/n,0,bool,0/n,2,convert,11,2/n,0,bool,1/n,2,select,1,3,4/",
+         "storage,0,1,0,0,0,36/storage,1,0,0,9,1,36/i,selbit,1,#1,#1,#0,5/i,bittobyte,0.0,1,5/value,2,bytes,1,0.0/done,2,2,2/")
+    case("an unlike pair past the last byte is not looked at",
+         HEAD + "t,bits,8/t,struct,0/n,0,bool,1/n,0,bool,1/n,3,aggregate,0,1/n,0,bool,0/n,2,int,7/n,3,aggregate,3,4/n,0,bool,1/n,3,select,2,5,6/",
+         "storage,0,1,0,0,0,36/storage,1,0,0,9,1,36/storage,2,0,0,8,2,36/i,selbit,1,#1,#1,#0,7/i,bittobyte,0.0,1,7/i,bytetobit,2,0.0,7/"
+         "value,3,aggregate,1/value,0,bit,2/done,3,3,3/")
+    case("an unlike pair behind one of bits",
+         HEAD + "n,0,bool,1/n,0,bool,1/n,1,aggregate,0,1/n,0,bool,0/n,1,null/n,1,aggregate,3,4/n,0,bool,1/n,1,select,2,5,6/", "refused,24,11/")
+    case("bits that meet the bytes of null",
+         HEAD + "t,struct,0,0/s,2,2,1,36/v,0,0,2,0/p,variable,0/n,2,read,0/n,2,null/n,0,bool,1/n,2,select,1,0,2/", "refused,24,11/")
+    case("bytes for a bit", HEAD + "n,0,null/n,0,null/n,0,bool,1/n,0,select,0,1,2/", "refused,24,7/")
+    case("records of no size", HEAD + "t,struct/n,2,aggregate/n,2,aggregate/n,0,bool,1/n,2,select,0,1,2/", "refused,23,8/")
+    case("24 at a later node",
+         HEAD + "t,bits,8/t,struct,0/n,0,bool,1/n,3,aggregate,0/n,0,bool,0/n,3,aggregate,2/n,0,bool,1/n,3,select,1,3,4/n,2,unary,1,5/", "refused,24,12/")
+    case("a condition in bytes", HEAD + "t,bits,8/t,struct,0/n,0,bool,1/n,3,aggregate,0/n,0,bool,0/n,3,aggregate,2/n,2,int,3/n,3,select,1,3,4/",
+         "storage,0,0,0,7,0,36/storage,1,1,0,0,1,36/storage,2,0,0,9,2,36/storage,3,0,0,8,3,36/"
+         "i,compare,1,8,0,1,#3,1,#0,5/i,selbit,2,0,#1,#0,5/i,bittobyte,1.0,2,5/i,bytetobit,3,1.0,5/value,3,aggregate,1/value,0,bit,3/done,4,4,4/")
+
+
 def taken(name, count):
     """Of the large ones every fifth."""
     return not name.startswith("large") or count % 5 == 0
@@ -255,7 +287,7 @@ def main():
         folder, args = args[1], args[2:]
     if not args:
         sys.exit(__doc__)
-    for group in (printed_case, edges, compared_only, temptations, differences, text_lengths, limits):
+    for group in (printed_case, edges, compared_only, temptations, differences, text_lengths, limits, selects):
         group()
     pairs = [(t.replace("/", "\n").encode(), a.replace("/", "\n").encode()) for _, t, a in CASES]
     pairs += answers(args)

@@ -150,6 +150,7 @@ purpose_of Purpose.Compare = lir.compare
 purpose_of Purpose.IntegerToBoolean = lir.integer_to_boolean
 purpose_of Purpose.Condition = lir.condition
 purpose_of Purpose.ReadBool = lir.read_bool
+purpose_of Purpose.SelectBool = lir.select_bool
 
 abbrev pub storage_of : NewStorage → lir.Storage
 storage_of s = record { id = s.id.0; kind = storage_kind_of s.kind; purpose = purpose_of s.purpose; number = s.number.0; regions = s.regions }

@@ -174,6 +174,7 @@ pub enum Purpose {
     IntegerToBoolean = 6,
     Condition = 7,
     ReadBool = 8,
+    SelectBool = 9,
 }
 
 // A new storage.

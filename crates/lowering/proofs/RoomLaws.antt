@@ -1,5 +1,5 @@
 -- The room of each operand and of a node's own step, from the room of the node.
-use Rattle.std.specs.Prelude.{◌≡◌, List, [], ℕ, ◌+◌, ◌-◌, ◌≤◌, length, get_or}
+use Rattle.std.specs.Prelude.{◌≡◌, List, [], ℕ, ◌+◌, ◌-◌, ◌*◌, ◌≤◌, length, get_or}
 use Rattle.std.proofs.Common.{arith}
 use Rattle.spec.specs.Hir.{At, Expr, select, aggregate}
 use Rattle.spec.specs.Ticket as ticket
@@ -136,7 +136,7 @@ module _ (t : Tables) where
             let i = tree_top yes select_room in
             let j = left_fits (lowered g).left (left_fits (lowered d).left i) in
             let u = lowers_bit T R nowhere (counters_in l2) h cond k.v (counters_in l4) k.out k.is in
-            let z = sum_le (λ ty. size_of T ty + 2) (cost T) (λ ty. omega arith) cond in (
+            let z = sum_le (λ ty. 2 * size_of T ty + 2) (cost T) (λ ty. omega arith) cond in (
               record {
                 node = node_after k (node_after (lowered g) (node_after (lowered d) q.node));
                 room = room_after 4096 (omega (arith, z, u.cost.storages)) (omega (arith, u.cost.instructions)) arms_room k.left.appends;

@@ -108,7 +108,7 @@ module _ {A B : Type 0} {P : A → B → Type 0} {hs : A → List Head} {l : Low
 
 -- what a node of a type uses of each counter, at most
 abbrev pub cost : Tables → ℕ → ℕ
-cost T ty = 2 * size_of T ty + 2
+cost T ty = 3 * size_of T ty + 2
 
 module _ (T : Tables) (R : TypesRight T) where
   module _ (e : Expr) {l : Lowering} {l1 : Lowering} {x : Val} where
@@ -116,7 +116,7 @@ module _ (T : Tables) (R : TypesRight T) where
     pub after : {hs : Value → List Head} → Done IsValue hs l (lower_expression T e nowhere (counters_in l)) l1 x → (m : ℕ) → Room (node_sum (cost T) e + m) l.out → Room m l1.out
     after d m r =
         let k = lowers T R nowhere (counters_in l) e d.v (counters_in l1) d.out d.is in
-        let z = sum_le (λ ty. size_of T ty + 2) (cost T) (λ t. omega arith) e in
+        let z = sum_le (λ ty. 2 * size_of T ty + 2) (cost T) (λ t. omega arith) e in
         room_after m (omega (arith, z, k.cost.storages)) (omega (arith, k.cost.instructions)) r d.left.appends
 
     -- its records but one

@@ -8,11 +8,11 @@ use Rattle.values.specs.declared.Lowering.{Lowering}
 use Rattle.reads.specs.Reading.{size_of, weight_of}
 
 pub record TreeRoom (T : Tables) (e : Expr) (l : Lowering) : Type 0 where
-  pub room : Room (node_sum (λ ty. 2 * size_of T ty + 2) e + 4096) l.out
+  pub room : Room (node_sum (λ ty. 3 * size_of T ty + 2) e + 4096) l.out
   pub top : l.top + 8 * node_sum (weight_of T) e ≤ length l.stack.now + 8
 
 pub record ListRoom (T : Tables) (es : Exprs) (l : Lowering) : Type 0 where
-  pub room : Room (node_sums (λ ty. 2 * size_of T ty + 2) es + 4096) l.out
+  pub room : Room (node_sums (λ ty. 3 * size_of T ty + 2) es + 4096) l.out
   pub top : l.top + 8 * node_sums (weight_of T) es ≤ length l.stack.now
 
 -- in the step of node n, which is e

@@ -75,13 +75,13 @@ module _ (T : Tables) (q : BitOperand) (a b ty : ℕ) (ts fs : List ValueOperand
       pieces_refused e = rw (new.is h, eq-eqb a b u, eq-eqb a ty v, ← (targets_here T s.0 ty size z), ← y, (meets_refused w e).0.is h)
 
       module _ {t : Unit {0}} (e : r2 ≡ Ok t) where
-        pub room_read : Readable T → StepRoom T h.node ty l → n ≤ 1024 → TypeRoom T h.node ty 0 (with_out l e2)
+        pub room_read : Readable T → StepRoom T h.node ty l → n ≤ 2048 → TypeRoom T h.node ty 0 (with_out l e2)
         unfolding type_size
         room_read R k g =
             let d = meets_done w e in
             record {
               node = k.node ∙ sym (ap (λ (z : NodeId). z.0) (d.node ∙ new.node));
-              room = room_less (omega (arith, R.types.size_most ty)) (room_done {n = n} {k = 3071} (room_less (omega (arith, g)) (room_behind k)) d);
+              room = room_less (omega (arith, R.types.size_most ty)) (room_done {n = n} {k = 2047} (room_less (omega (arith, g)) (room_behind k)) d);
               top = omega (arith, k.top);
               reach = omega (arith, R.types.size_most ty);
             }

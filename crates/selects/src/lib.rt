@@ -1,25 +1,24 @@
 // `lower_select` over two values whose parts stand on the lent stack: an instruction for each of their operands.
 #![tactic(auto)]
 
-ghost use Rattle.std.specs.Prelude.{◌≡◌, ◌∷◌, ◌≤◌, length, option_map, IfSome};
-ghost use Rattle.spec.specs.Select.{select_piece, select_pieces};
-ghost use Rattle.lir.specs.Abstract.{tab, bit_operand_of, kind_of, Small};
+ghost use Rattle.std.specs.Prelude.{◌≡◌, ◌∷◌, ◌≤◌, ◌*◌, length};
+ghost use Rattle.spec.specs.Select.{select_as_byte, select_piece, select_pieces};
+ghost use Rattle.lir.specs.Abstract.{tab, byte_storage_of, bit_operand_of, Small};
 ghost use Rattle.tables.specs.Ticket.{ticket_of};
 ghost use Rattle.emission.specs.Appends.{Room};
 ghost use Rattle.emission.specs.Emits.{Emits};
-ghost use Rattle.emission.specs.Does.{Meets};
+ghost use Rattle.emission.specs.Does.{Does, Meets};
 ghost use Rattle.values.specs.Heads.{head_of, operands_of, Sound_value};
 ghost use Rattle.values.specs.Left.{counters_in, MeetsValue};
 ghost use Rattle.values.specs.Stack.{Stands, heads, selects};
 ghost use Rattle.parts.specs.Operands.{operand_of};
 ghost use Rattle.parts.specs.Records.{AreRecords, heads_in};
 ghost use Rattle.reads.specs.Reading.{at_of, StepRoom};
-ghost use Rattle.lir.specs.Sound.{Sound};
 ghost use Rattle.selects.specs.Selecting.{target_of, count_of, targets, byte_selected};
 
 use answers::{Refusal, Refused};
 use emission::Emitter;
-use lir::{BitOperand, ByteStorage, Bytes, Destinations, InstructionKind, StorageId};
+use lir::{BitOperand, ByteStorage, Bytes, Destinations, InstructionKind, Purpose, StorageId};
 use parts::{Operand, Operands};
 use reads::At;
 use tables::Tables;
@@ -62,31 +61,57 @@ fn targets_of(storage: StorageId, ty: u64, size: u64) -> Targets
 
 // ---------------------------------------------------------------- pieces
 
-// The instruction for operands of one kind, into a destination of that kind.
-#[tactic(auto, unfolding(spec::specs::Select::select_piece))]
+fn byte_of(to: Destinations, i: u64) -> ByteStorage
+    ensures { result ≡ record { storage = to.storage; offset = i } }
+{
+    ByteStorage {
+        storage: to.storage,
+        offset: i,
+    }
+}
+
+// Two bits for a byte: one of them is chosen into a new bit, and that becomes the byte.
+fn select_as_byte(
+    out: &mut Emitter<'_>,
+    to: ByteStorage,
+    c: BitOperand,
+    t: BitOperand,
+    f: BitOperand,
+)
+    requires { Room 2 out.old }
+    ensures { Does 2 out.old (select_as_byte (bit_operand_of c) (byte_storage_of to) (bit_operand_of t) (bit_operand_of f)) tt out.new }
+{
+    let bit = out.allocate_bit_temporary(Purpose::SelectBool);
+    out.emit(InstructionKind::SelectBit(bit, c, t, f));
+    out.emit(InstructionKind::BitToByte(to, BitOperand::Storage(bit)));
+}
+
+// Operands of one kind into a destination of that kind, or two bits into a byte.
+#[tactic(auto, using(crate::proofs::Laws::piece_made, crate::proofs::Laws::piece_unlike, crate::proofs::Laws::piece_done), unfolding(spec::specs::Select::select_piece))]
 fn select_piece(
+    out: &mut Emitter<'_>,
     to: Targets,
     i: u64,
     c: BitOperand,
     t: Operand,
     f: Operand,
-) -> Option<InstructionKind>
-    ensures is { select_piece (bit_operand_of c) (target_of to i) (operand_of t) (operand_of f) ≡ option_map kind_of result }
-    ensures sound { IfSome result Sound }
+) -> Result<(), Refusal>
+    requires { Room 2 out.old }
+    ensures { Meets 2 out.old (select_piece (bit_operand_of c) (target_of to i) (operand_of t) (operand_of f)) out.new result }
 {
     match (to, t, f) {
         (Targets::Bit(to), Operand::Bit(x), Operand::Bit(y)) => {
-            Some(InstructionKind::SelectBit(to, c, x, y))
+            out.emit(InstructionKind::SelectBit(to, c, x, y));
         }
         (Targets::Bytes(to), Operand::Byte(x), Operand::Byte(y)) => {
-            let byte = ByteStorage {
-                storage: to.storage,
-                offset: i,
-            };
-            Some(InstructionKind::SelectByte(byte, c, x, y))
+            out.emit(InstructionKind::SelectByte(byte_of(to, i), c, x, y));
         }
-        _ => None,
+        (Targets::Bytes(to), Operand::Bit(x), Operand::Bit(y)) => {
+            select_as_byte(out, byte_of(to, i), c, x, y);
+        }
+        _ => return Err(Refusal::UnsupportedExpression),
     }
+    Ok(())
 }
 
 // All destinations, as far as both sides go. By `next`, and no `zip`: the definition has a clause for the end of each side.
@@ -98,8 +123,8 @@ fn select_pieces(
     left: &mut Operands<'_>,
     right: &mut Operands<'_>,
 ) -> Result<(), Refusal>
-    requires { Room (count_of to) out.old }
-    ensures { Meets (count_of to) out.old (select_pieces (bit_operand_of c) (tab (target_of to) 0 (count_of to)) left.old right.old) out.new result }
+    requires { Room (2 * count_of to) out.old }
+    ensures { Meets (2 * count_of to) out.old (select_pieces (bit_operand_of c) (tab (target_of to) 0 (count_of to)) left.old right.old) out.new result }
 {
     for i in 0..to.count() {
         let Some(x) = left.next() else {
@@ -108,10 +133,7 @@ fn select_pieces(
         let Some(y) = right.next() else {
             return Ok(());
         };
-        let Some(kind) = select_piece(to, i, c, x, y) else {
-            return Err(Refusal::UnsupportedExpression);
-        };
-        out.emit(kind);
+        select_piece(out, to, i, c, x, y)?;
     }
     Ok(())
 }
@@ -145,8 +167,8 @@ fn select_values(
     f: Value,
     second: &[u64],
 ) -> Result<(), Refusal>
-    requires { (Sound_value t) × (Sound_value f) × (AreRecords first.now) × (AreRecords second.now) × (Room (count_of to) out.old) }
-    ensures { Meets (count_of to) out.old (select_pieces (bit_operand_of c) (tab (target_of to) 0 (count_of to)) (operands_of (head_of t ∷ heads_in first.now)) (operands_of (head_of f ∷ heads_in second.now))) out.new result }
+    requires { (Sound_value t) × (Sound_value f) × (AreRecords first.now) × (AreRecords second.now) × (Room (2 * count_of to) out.old) }
+    ensures { Meets (2 * count_of to) out.old (select_pieces (bit_operand_of c) (tab (target_of to) 0 (count_of to)) (operands_of (head_of t ∷ heads_in first.now)) (operands_of (head_of f ∷ heads_in second.now))) out.new result }
 {
     if first.is_empty() && second.is_empty() {
         if let (Targets::Bytes(to), Repr::Bytes(x), Repr::Bytes(y)) = (to, t.repr, f.repr) {

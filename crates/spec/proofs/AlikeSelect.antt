@@ -6,25 +6,35 @@ use mathlib.Core.Path.{◌≡◌, refl}
 use lib.ListN.{take}
 use Rattle.spec.specs.Hir.{Place}
 use Rattle.spec.specs.Ticket.{Tables, no_storage_line, storage_at}
-use Rattle.spec.specs.Lir.{BitOperand, ValueOperand, ValueStorage, Value, pointer_carry}
+use Rattle.spec.specs.Lir.{BitOperand, ValueOperand, bit_operand, byte_operand, ValueStorage, bit_storage, byte_storage, Value, pointer_carry}
 use Rattle.spec.specs.Operands.{resize}
-use Rattle.spec.specs.Allocation.{type_size, pointer_type, Location, bytes_at, location_value_storages}
+use Rattle.spec.specs.Allocation.{type_size, pointer_type, Location, allocate_bit_temporary, bytes_at, location_value_storages}
 use Rattle.spec.specs.Places.{is_one}
 use Rattle.spec.specs.Arithmetic.{adds}
-use Rattle.spec.specs.Select.{select_pieces, select_to_location, lower_select, require_addressable, second_storage, materialize_location_address, lower_address_of, lower_static_address, lower_function_address, lower_pointer_offset}
+use Rattle.spec.specs.Select.{select_as_byte, select_piece, select_pieces, select_to_location, lower_select, require_addressable, second_storage, materialize_location_address, lower_address_of, lower_static_address, lower_function_address, lower_pointer_offset}
 use Rattle.spec.specs.Alike.{Pairwise, AlikeStorage}
-use Rattle.spec.proofs.AlikeLogic.{Follows, ◌then◌, ◌next◌, answers, found, known, required, emitting, emitting_one, narrowing}
+use Rattle.spec.proofs.AlikeLogic.{Follows, ◌then◌, ◌next◌, answers, refuses, found, required, emitting, emitting_one, narrowing, allocating}
 use Rattle.spec.proofs.AlikeReads.{More, extended, carry_alike, temporary_alike, bytes_alike, location_alike}
 use Rattle.spec.proofs.AlikeSteps.{operand_alike}
 use Rattle.spec.proofs.AlikePairs.{pair_at}
 use Rattle.spec.proofs.AlikePlaces.{nth_more, SamePlace}
+
+piece_alike : (c : BitOperand) (d : ValueStorage) (t f : ValueOperand) → Follows (select_piece c d t f) (select_piece c d t f)
+unfolding select_piece select_as_byte allocate_bit_temporary
+piece_alike c (bit_storage d) (bit_operand t) (bit_operand f) = emitting_one _
+piece_alike c (bit_storage d) (bit_operand t) (byte_operand f) = refuses
+piece_alike c (bit_storage d) (byte_operand t) f = refuses
+piece_alike c (byte_storage d) (byte_operand t) (byte_operand f) = emitting_one _
+piece_alike c (byte_storage d) (byte_operand t) (bit_operand f) = refuses
+piece_alike c (byte_storage d) (bit_operand t) (bit_operand f) = allocating _ _ _ then λ b. emitting_one _ next emitting_one _
+piece_alike c (byte_storage d) (bit_operand t) (byte_operand f) = refuses
 
 pieces_alike : (c : BitOperand) (ds : List ValueStorage) (ts fs : List ValueOperand) → Follows (select_pieces c ds ts fs) (select_pieces c ds ts fs)
 unfolding select_pieces
 pieces_alike c [] ts fs = answers
 pieces_alike c (d ∷ ds) [] fs = answers
 pieces_alike c (d ∷ ds) (t ∷ ts) [] = answers
-pieces_alike c (d ∷ ds) (t ∷ ts) (f ∷ fs) = known _ _ then λ i. emitting_one i next pieces_alike c ds ts fs
+pieces_alike c (d ∷ ds) (t ∷ ts) (f ∷ fs) = piece_alike c d t f next pieces_alike c ds ts fs
 
 module _ (T : Tables) (m : More) where
   to_location_alike : (l : Location) (c : BitOperand) (t f : Value) → Follows (select_to_location T l c t f) (select_to_location (extended T m) l c t f)

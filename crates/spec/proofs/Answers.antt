@@ -24,7 +24,7 @@ pub record Printed (T : Tables) (s : List ℕ) : Type 0 where
   pub lowers : lowered T ≡ monad.done value counters out
   pub is : s ≡ print_listing (listing_of T value counters out)
 
-kept : (room : ℕ) (r s : List ℕ) → fitted room r ≡ accepted s → s ≡ r
+pub kept : (room : ℕ) (r s : List ℕ) → fitted room r ≡ accepted s → s ≡ r
 unfolding fitted
 kept room r s e = go (leb (length r) room) e
   where

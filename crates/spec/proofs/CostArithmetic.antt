@@ -14,8 +14,8 @@ use Rattle.spec.specs.Allocation.{width_of, Location, integer_width, allocate_ca
 use Rattle.spec.specs.Operators.{UnaryForm, negating, inverting, counting, unary_form, BinaryForm, adding, subtracting, bytewise, shifting, whole, binary_form}
 use Rattle.spec.specs.Arithmetic.{zip2, zip3, carry_in, adds, subtracts, negates, byte_rotate, shifts, unary_instructions, lower_integer_unary, binary_instructions, lower_integer_binary}
 use Rattle.spec.specs.Demands.{kind_bytes, writes}
-use Rattle.spec.proofs.CostLogic.{Cost, Does, Any, ◌then◌, ◌next◌, within}
-use Rattle.spec.proofs.CostSteps.{budget, known, emitting, emitting_one, allocating}
+use Rattle.spec.proofs.CostLogic.{Cost, ◌⊞◌, Does, Any, ◌then◌, ◌next◌, within}
+use Rattle.spec.proofs.CostSteps.{emitted, allocated, plain_budget, known, emitting, emitting_one, allocating}
 use Rattle.spec.proofs.CostWrites.{writes_byte, writes_bytes, carried, zip2_length, zip2_each, zip3_length, zip3_each}
 use Rattle.spec.proofs.CostReads.{size_of, weight_of, bools_of_le, Small}
 use Rattle.spec.proofs.CostTemporary.{Destined, destined, mask_does, read_temporary}
@@ -23,7 +23,7 @@ use Rattle.spec.proofs.CostShifts.{turning, spare, turned}
 
 -- an instruction for each of n destinations, one and some more, and a carry
 abbrev operating : ℕ → ℕ → Cost
-operating n more = record { instructions = n + 1 + more; storages = 1; bytes = 0 }
+operating n more = emitted (n + 1 + more) ⊞ allocated 1 0
 
 module _ (T : Tables) {L : List Storage} {P : Type 0} where
   unary_does : (form : UnaryForm) (ty : ℕ) (t : Location) (ds : List ByteStorage) (input : List ByteOperand) → (P → Destined T L ty t ds)
@@ -31,7 +31,7 @@ module _ (T : Tables) {L : List Storage} {P : Type 0} where
   unfolding unary_instructions integer_width allocate_carry negates kind_bytes writes
   unary_does negating ty t ds input g =
       within
-      (allocating _ _ _ then λ c.
+      (allocating _ _ _ refl then λ c.
       emitting (size_of T ty) (negates c ds input) (λ p. le_trans (zip2_length _ 0 ds input) (le_of_eq (g p.0).count))
       (λ p. zip2_each _ (λ i d b q. carried (subtract d (immediate 0) b (carry_in c i)) (length ds) i refl refl q p.1) 0 ds input (g p.0).each))
       (λ p. omega arith)
@@ -51,13 +51,13 @@ module _ (T : Tables) {L : List Storage} {P : Type 0} where
   unfolding binary_instructions integer_width allocate_carry adds subtracts kind_bytes writes
   binary_does adding ty t ds l r g =
       within
-      (allocating _ _ _ then λ c.
+      (allocating _ _ _ refl then λ c.
       emitting (size_of T ty) (adds c ds l r) (λ p. le_trans (zip3_length _ 0 ds l r) (le_of_eq (g p.0).count))
       (λ p. zip3_each _ (λ i d x y q. carried (add d x y (carry_in c i)) (length ds) i refl refl q p.1) 0 ds l r (g p.0).each))
       (λ p. omega arith)
   binary_does subtracting ty t ds l r g =
       within
-      (allocating _ _ _ then λ c.
+      (allocating _ _ _ refl then λ c.
       emitting (size_of T ty) (subtracts c ds l r) (λ p. le_trans (zip3_length _ 0 ds l r) (le_of_eq (g p.0).count))
       (λ p. zip3_each _ (λ i d x y q. carried (subtract d x y (carry_in c i)) (length ds) i refl refl q p.1) 0 ds l r (g p.0).each))
       (λ p. omega arith)
@@ -81,7 +81,7 @@ module _ (T : Tables) {L : List Storage} {P : Type 0} where
 
 module _ (T : Tables) (R : TypesRight T) {L : List Storage} {P : Type 0} where
   pub lower_integer_unary_does : (op : IntegerUnaryOp) (v : Value) (ty : ℕ)
-      → Does L P (lower_integer_unary T op v ty) (budget (size_of T ty)) (Small (weight_of T ty))
+      → Does L P (lower_integer_unary T op v ty) (plain_budget (size_of T ty)) (Small (weight_of T ty))
   unfolding lower_integer_unary value_bytes
   lower_integer_unary_does op v ty =
       within
@@ -93,7 +93,7 @@ module _ (T : Tables) (R : TypesRight T) {L : List Storage} {P : Type 0} where
       (λ p. omega (arith, spare T R ty, bools_of_le T ty))
 
   pub lower_integer_binary_does : (op : IntegerBinaryOp) (l r : Value) (ty : ℕ)
-      → Does L P (lower_integer_binary T op l r ty) (budget (size_of T ty)) (Small (weight_of T ty))
+      → Does L P (lower_integer_binary T op l r ty) (plain_budget (size_of T ty)) (Small (weight_of T ty))
   unfolding lower_integer_binary value_bytes
   lower_integer_binary_does op l r ty =
       within

@@ -17,7 +17,7 @@ use Rattle.spec.specs.ReadBack.{read_listing}
 use Rattle.spec.specs.Answer.{listing_of}
 use Rattle.spec.specs.Demands.{total_size, CostBound}
 use Rattle.spec.proofs.Answers.{printed}
-use Rattle.spec.proofs.CostLogic.{Cost, Fits, fits_trans, cost_of}
+use Rattle.spec.proofs.CostLogic.{Cost, Fits, Within, within_more}
 use Rattle.spec.proofs.CostReads.{size_of}
 use Rattle.spec.proofs.CostTree.{tree_budget}
 use Rattle.spec.proofs.CostClosed.{lowers}
@@ -29,6 +29,11 @@ unfolding line_sum
 line_sum_double f [] = refl
 line_sum_double f (n ∷ ns) = let h = line_sum_double f ns in omega arith
 
+line_sum_triple : (f : ℕ → ℕ) (ns : List NodeLine) → line_sum (λ ty. 3 * f ty) ns ≡ 3 * line_sum f ns
+unfolding line_sum
+line_sum_triple f [] = refl
+line_sum_triple f (n ∷ ns) = let h = line_sum_triple f ns in omega arith
+
 line_sum_plus : (f : ℕ → ℕ) (ns : List NodeLine) → line_sum (λ ty. f ty + 2) ns ≡ line_sum f ns + 2 * length ns
 unfolding line_sum
 line_sum_plus f [] = refl
@@ -39,18 +44,30 @@ unfolding line_sum
 line_sum_same f g e [] = refl
 line_sum_same f g e (n ∷ ns) = let h = line_sum_same f g e ns in omega (arith, e n.type)
 
--- 2S + 2n, S + 2n and S + 2n
+-- 3S + 2n, 2S + 2n and S + 2n, of which 2S + 2n and S + 2n are not for bits that a select chooses for bytes
 abbrev pub ticket_budget : ℕ → ℕ → Cost
-ticket_budget S n = record { instructions = 2 * S + 2 * n; storages = S + 2 * n; bytes = S + 2 * n }
+ticket_budget S n =
+    record {
+      instructions = 3 * S + 2 * n;
+      storages = 2 * S + 2 * n;
+      bytes = S + 2 * n;
+      other_instructions = 2 * S + 2 * n;
+      other_storages = S + 2 * n;
+      chosen = S;
+    }
 
 -- a root's nodes are among the ticket's node lines, each once
 pub root_within : (T : Tables) → Readable T → Fits (tree_budget T (root T)) (ticket_budget (line_sum (size_of T) T.nodes) (length T.nodes))
 root_within T R =
     omega (
       arith,
+      R.once (λ ty. 3 * size_of T ty + 2),
       R.once (λ ty. 2 * size_of T ty + 2),
       R.once (λ ty. size_of T ty + 2),
+      R.once (size_of T),
+      line_sum_plus (λ ty. 3 * size_of T ty) T.nodes,
       line_sum_plus (λ ty. 2 * size_of T ty) T.nodes,
+      line_sum_triple (size_of T) T.nodes,
       line_sum_double (size_of T) T.nodes,
       line_sum_plus (size_of T) T.nodes,
     )
@@ -70,13 +87,16 @@ cost_bound readable round_trip ticket buffer s T read accepts =
     let A = printed ticket s (length buffer) T read accepts in
     let l = listing_of T A.value A.counters A.out in
     let W = lowers T R.types nowhere _ (root T) A.value A.counters A.out A.lowers in
-    let B : Fits (cost_of A.out) (ticket_budget (total_size T) (length T.nodes)) = fits_trans W.cost (rw (stored_sum T R) at (root_within T R)) in
+    let B : Within A.out (ticket_budget (total_size T) (length T.nodes)) = within_more W.cost (rw (stored_sum T R) at (root_within T R)) in
     record {
       listing = l;
       reads = ap read_listing A.is ∙ round_trip l;
       instructions = B.instructions;
       storages = B.storages;
       bytes = B.bytes;
+      other_instructions = B.other_instructions;
+      other_storages = B.other_storages;
+      chosen = B.chosen;
       new = W.advanced.ids;
       inside = W.inside;
       instruction_count = refl;

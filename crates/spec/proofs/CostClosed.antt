@@ -14,7 +14,7 @@ use Rattle.spec.specs.Monad.{Counters, Out, Lower, done}
 use Rattle.spec.specs.Lower.{lower_expression, expression_as_bit}
 use Rattle.spec.specs.Demands.{kind_of, numbered, writes_inside}
 use Rattle.spec.proofs.Bools.{and_left, and_right}
-use Rattle.spec.proofs.CostLogic.{Cost, ◌⊞◌, Any, Fits, cost_of, Each, none_left, ◌also◌, Advanced, Kind, Here, Ok, Does}
+use Rattle.spec.proofs.CostLogic.{Cost, ◌⊞◌, Any, Within, Each, none_left, ◌also◌, Advanced, Kind, Here, Ok, Does}
 use Rattle.spec.proofs.CostReads.{reading, weight_of, Small}
 use Rattle.spec.proofs.CostTree.{tree_budget, expression_does, expression_as_bit_does}
 
@@ -39,7 +39,7 @@ here_behind : (s : Storage) (L ss : List Storage) → Each (λ t. s.id < t.id) s
 here_behind s L [] i h = none_left
 here_behind s L (t ∷ ss) (q also i) (k also h) = kind_behind s L t.id q k also here_behind s L ss i h
 
-all_here : (n : ℕ) (ss : List Storage) → numbered n ss ≡ true → Here ss ss
+pub all_here : (n : ℕ) (ss : List Storage) → numbered n ss ≡ true → Here ss ss
 unfolding numbered
 all_here n [] e = none_left
 all_here n (s ∷ ss) e =
@@ -52,7 +52,7 @@ all_here n (s ∷ ss) e =
 -- from c to d: numbers, cost k, writes inside the storages appended, and an answer with Q
 pub record Done (k : Cost) (c d : Counters) (o : Out) (Q : Type 0) : Type 0 where
   pub advanced : Advanced c d o
-  pub cost : Fits (cost_of o) k
+  pub cost : Within o k
   pub inside : writes_inside o.storages o.instructions ≡ true
   pub result : Q
 

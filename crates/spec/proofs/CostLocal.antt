@@ -52,18 +52,18 @@ set_records (v ∷ᵛ vs) (suc i) w us e = behind (set_value vs i w) (set_record
     behind (Some ws) f g = let h = f ws refl in let k = ap records_of (same_Some (v ∷ᵛ ws) us g) in omega arith
 
 module _ (T : Tables) {L : List Storage} {P : Type 0} where
-  integer_does : (v ty : ℕ) → Does L P (lower_integer T v ty) free (Small 1)
+  pub integer_does : (v ty : ℕ) → Does L P (lower_integer T v ty) free (Small 1)
   unfolding lower_integer records
   integer_does v ty = required _ _ next λ _. answers (λ p. le_refl 1)
 
-  extract_does : (v : Value) (i : ℕ) → Does L P (lower_extract T v i) free (Small (records v))
+  pub extract_does : (v : Value) (i : ℕ) → Does L P (lower_extract T v i) free (Small (records v))
   unfolding lower_extract records
   extract_does (value ty r) i =
       known _ _ then λ vs.
       giving {b = free} (known _ _) (λ p. omega arith)
       (λ v p q. let a = parts_records r vs p.1 in let b = nth_records vs i v q in omega arith)
 
-  insert_does : (v : Value) (i : ℕ) (w : Value) (ty : ℕ) → Does L P (lower_insert T v i w ty) free (Small (records v + records w))
+  pub insert_does : (v : Value) (i : ℕ) (w : Value) (ty : ℕ) → Does L P (lower_insert T v i w ty) free (Small (records v + records w))
   unfolding lower_insert records
   insert_does (value t r) i w ty =
       known _ _ then λ vs.
@@ -93,7 +93,7 @@ pub data Own (T : Tables) (h : At) : ℕ → Lower Value → Type 0 where
   insert_element : (v : Value) (i : ℕ) (w : Value) → Own T h (records v + records w) (own h (lower_insert T v i w h.ty))
 
 module _ (T : Tables) (R : TypesRight T) {L : List Storage} {P : Type 0} where
-  -- at most 2 size + 2 instructions, size + 2 storages and size + 2 bytes, every write in a new storage of the listing
+  -- at most 3 size + 2 instructions, 2 size + 2 storages and size + 2 bytes, every write in a new storage of the listing
   pub own_step : {h : At} {n : ℕ} {m : Lower Value} → Own T h n m → Does L P m (budget (size_of T h.ty)) (Small (n + weight_of T h.ty))
   unfolding records
   own_step {h} (boolean b) = within (answers (λ p. omega (arith, weight_least T R h.ty))) (λ p. omega arith)
@@ -106,7 +106,7 @@ module _ (T : Tables) (R : TypesRight T) {L : List Storage} {P : Type 0} where
   own_step {h} (integer_unary op v) = giving (owned h (lower_integer_unary_does T R op v h.ty)) (λ p. omega arith) (λ x p q. omega arith)
   own_step {h} (integer_binary op v w) = giving (owned h (lower_integer_binary_does T R op v w h.ty)) (λ p. omega arith) (λ x p q. omega arith)
   own_step {h} (compare op v w) = giving (owned h (lower_compare_does T op v w)) (λ p. omega arith) (λ x p q. omega (arith, weight_least T R h.ty))
-  own_step {h} (convert op v) = owned h (lower_conversion_does T R op v h.ty)
+  own_step {h} (convert op v) = within (owned h (lower_conversion_does T R op v h.ty)) (λ p. omega arith)
   own_step {h} (select v w c) =
       giving (owned h (value_as_bit_does T c then λ b. lower_select_does T R b v w h.ty)) (λ p. omega arith) (λ x p q. omega arith)
   own_step {h} (address_of p) = giving (owned h (lower_address_of_does T R p)) (λ g. omega arith) (λ x g q. omega (arith, weight_least T R h.ty))

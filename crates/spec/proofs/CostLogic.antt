@@ -11,30 +11,51 @@ use lib.ListN.{length, length-append}
 use Rattle.spec.specs.Hir.{At}
 use Rattle.spec.specs.Lir.{Storage, StorageKind, Instruction}
 use Rattle.spec.specs.Monad.{Counters, Out, Outcome, refused, done, Lower, ◌⊕◌, prepend, bind_to, ◌>>=◌, ◌>>◌}
-use Rattle.spec.specs.Demands.{all_bytes, kind_of, writes, all_inside, writes_inside, numbered}
+use Rattle.spec.specs.Demands.{all_bytes, chosen_bits, kind_of, writes, all_inside, writes_inside, numbered}
 use Rattle.spec.proofs.Bools.{and_true, and_left, and_right}
 
--- ---------------------------------------------------------------- the three measures
+-- ---------------------------------------------------------------- the measures
 
+-- the others are without one of each for each bit that a select chooses for a byte; chosen are such bits
 pub record Cost : Type 0 where
   pub instructions : ℕ
   pub storages : ℕ
   pub bytes : ℕ
+  pub other_instructions : ℕ
+  pub other_storages : ℕ
+  pub chosen : ℕ
 
 abbrev pub free : Cost
-free = record { instructions = 0; storages = 0; bytes = 0 }
+free = record { instructions = 0; storages = 0; bytes = 0; other_instructions = 0; other_storages = 0; chosen = 0 }
 
 infixl 60 ◌⊞◌
 abbrev pub ◌⊞◌ : Cost → Cost → Cost
-◌⊞◌ a b = record { instructions = a.instructions + b.instructions; storages = a.storages + b.storages; bytes = a.bytes + b.bytes }
+◌⊞◌ a b =
+    record {
+      instructions = a.instructions + b.instructions;
+      storages = a.storages + b.storages;
+      bytes = a.bytes + b.bytes;
+      other_instructions = a.other_instructions + b.other_instructions;
+      other_storages = a.other_storages + b.other_storages;
+      chosen = a.chosen + b.chosen;
+    }
 
 pub record Fits (a b : Cost) : Type 0 where
   pub instructions : a.instructions ≤ b.instructions
   pub storages : a.storages ≤ b.storages
   pub bytes : a.bytes ≤ b.bytes
+  pub other_instructions : a.other_instructions ≤ b.other_instructions
+  pub other_storages : a.other_storages ≤ b.other_storages
+  pub chosen : a.chosen ≤ b.chosen
 
-abbrev pub cost_of : Out → Cost
-cost_of o = record { instructions = length o.instructions; storages = length o.storages; bytes = all_bytes o.storages }
+-- what is appended is at most k
+pub record Within (o : Out) (k : Cost) : Type 0 where
+  pub instructions : length o.instructions ≤ k.instructions
+  pub storages : length o.storages ≤ k.storages
+  pub bytes : all_bytes o.storages ≤ k.bytes
+  pub other_instructions : length o.instructions ≤ k.other_instructions + chosen_bits o.storages
+  pub other_storages : length o.storages ≤ k.other_storages + chosen_bits o.storages
+  pub chosen : chosen_bits o.storages ≤ k.chosen
 
 -- ---------------------------------------------------------------- what holds of an outcome
 
@@ -64,7 +85,7 @@ abbrev pub Here : List Storage → List Storage → Type 0
 Here L ss = Each (λ s. Kind L s.id s.kind) ss
 
 pub record Effect (L : List Storage) (k : Cost) (o : Out) (Q : Type 0) : Type 0 where
-  pub cost : Fits (cost_of o) k
+  pub cost : Within o k
   pub inside : writes_inside L o.instructions ≡ true
   pub result : Q
 
@@ -95,6 +116,11 @@ unfolding all_bytes
 bytes_append [] ts = omega arith
 bytes_append (s ∷ ss) ts = let h = bytes_append ss ts in omega arith
 
+pub chosen_append : (ss ts : List Storage) → chosen_bits (ss ++ ts) ≡ chosen_bits ss + chosen_bits ts
+unfolding chosen_bits
+chosen_append [] ts = omega arith
+chosen_append (s ∷ ss) ts = let h = chosen_append ss ts in omega arith
+
 writes_append : (L : List Storage) (is js : List Instruction) → writes_inside L is ≡ true → writes_inside L js ≡ true → writes_inside L (is ++ js) ≡ true
 unfolding writes_inside
 writes_append L [] js p q = q
@@ -117,18 +143,21 @@ advanced_append {c} {d} {e} {o} {p} a b =
       ids = numbered_append c.storage d.storage o.storages p.storages a.storage a.ids b.ids;
     }
 
-fits_append : (a b : Cost) (o p : Out) → Fits (cost_of o) a → Fits (cost_of p) b → Fits (cost_of (◌⊕◌ o p)) (a ⊞ b)
-fits_append a b o p f g =
+within_append : (a b : Cost) (o p : Out) → Within o a → Within p b → Within (◌⊕◌ o p) (a ⊞ b)
+within_append a b o p f g =
     record {
       instructions = simp length-append (omega arith);
       storages = simp length-append (omega arith);
       bytes = simp bytes_append (omega arith);
+      other_instructions = simp (length-append, chosen_append) (omega arith);
+      other_storages = simp (length-append, chosen_append) (omega arith);
+      chosen = simp chosen_append (omega arith);
     }
 
 effect_append : {L : List Storage} {Q : Type 0} (a b : Cost) (o p : Out)
-    → Fits (cost_of o) a → writes_inside L o.instructions ≡ true → Effect L b p Q → Effect L (a ⊞ b) (◌⊕◌ o p) Q
+    → Within o a → writes_inside L o.instructions ≡ true → Effect L b p Q → Effect L (a ⊞ b) (◌⊕◌ o p) Q
 effect_append {L} a b o p f w e =
-    record { cost = fits_append a b o p f e.cost; inside = writes_append L o.instructions p.instructions w e.inside; result = e.result }
+    record { cost = within_append a b o p f e.cost; inside = writes_append L o.instructions p.instructions w e.inside; result = e.result }
 
 module _ {A B : Type 0} (L : List Storage) (P : Type 0) (a b : Cost) (Q : A → Type 0) (R : B → Type 0) where
   after : (c d : Counters) (o : Out) (y : A) (x : Outcome B) → Ok L P a Q c (done y d o) → Ok L (P × Q y) b R d x → Ok L P (a ⊞ b) R c (prepend o x)
@@ -160,8 +189,8 @@ unfolding ◌>>◌
 
 -- ---------------------------------------------------------------- a smaller claim
 
-pub fits_trans : {a b c : Cost} → Fits a b → Fits b c → Fits a c
-fits_trans f g = omega arith
+pub within_more : {o : Out} {a b : Cost} → Within o a → Fits a b → Within o b
+within_more f g = omega arith
 
 weaker : {A : Type 0} (L : List Storage) (O P : Type 0) (a b : Cost) (Q R : A → Type 0) → (P → O) → (P → Fits a b) → ((y : A) → P → Q y → R y)
     → (c : Counters) (x : Outcome A) → Ok L O a Q c x → Ok L P b R c x
@@ -170,7 +199,7 @@ weaker L O P a b Q R e f g c (done y d o) k = (
   k.0,
   λ given here.
       let w = k.1 (e given) here in
-      record { cost = fits_trans w.cost (f given); inside = w.inside; result = g y given w.result },
+      record { cost = within_more w.cost (f given); inside = w.inside; result = g y given w.result },
 )
 
 module _ {A : Type 0} {L : List Storage} {P : Type 0} {m : Lower A} {a : Cost} {Q : A → Type 0} where

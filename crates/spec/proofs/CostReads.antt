@@ -40,7 +40,7 @@ Small n v = records v ≤ n
 
 -- each of n bits is a storage and an instruction
 abbrev pub reading : ℕ → Cost
-reading n = record { instructions = n; storages = n; bytes = 0 }
+reading n = record { instructions = n; storages = n; bytes = 0; other_instructions = n; other_storages = n; chosen = 0 }
 
 -- how many Bools a type of n bytes may have
 abbrev pub bools : TypeWord → ℕ → ℕ
@@ -114,7 +114,7 @@ module _ (T : Tables) (R : TypesRight T) (L : List Storage) where
   bool_byte_do : (P : Type 0) (s ty o : ℕ) → Does L P (read_bool_byte T s ty o) (reading 1) (Small 1)
   unfolding read_bool_byte allocate_bit_temporary records kind_bytes writes
   bool_byte_do P s ty o =
-      allocating _ _ _ then λ d.
+      allocating _ _ _ refl then λ d.
       emitting_one _ (λ p. writes_bit refl p.1) next λ _.
       answers (λ p. le_refl 1)
 

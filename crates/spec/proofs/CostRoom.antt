@@ -16,8 +16,9 @@ use Rattle.spec.proofs.CostBound.{root_within}
 
 -- the sums over the root's tree that counters, listing and stack grow by
 pub record Room (T : Tables) : Type 0 where
-  pub instructions : node_sum (λ ty. 2 * size_of T ty + 2) (root T) ≤ 2 * size_sum_limit + 2 * node_lines
-  pub storages : node_sum (λ ty. size_of T ty + 2) (root T) ≤ size_sum_limit + 2 * node_lines
+  pub instructions : node_sum (λ ty. 3 * size_of T ty + 2) (root T) ≤ 3 * size_sum_limit + 2 * node_lines
+  pub storages : node_sum (λ ty. 2 * size_of T ty + 2) (root T) ≤ 2 * size_sum_limit + 2 * node_lines
+  pub bytes : node_sum (λ ty. size_of T ty + 2) (root T) ≤ size_sum_limit + 2 * node_lines
   pub records : node_sum (weight_of T) (root T) ≤ weight_sum_limit
 
 pub room : (T : Tables) → Readable T → Room T
@@ -25,11 +26,11 @@ room T R = let f = root_within T R in omega (arith, R.once (weight_of T), R.size
 
 -- where the root's lowering ends
 pub record Ends (c : Counters) (o : Out) (v : Value) : Type 0 where
-  pub instructions : length o.instructions ≤ 2 * size_sum_limit + 2 * node_lines
-  pub storages : length o.storages ≤ size_sum_limit + 2 * node_lines
+  pub instructions : length o.instructions ≤ 3 * size_sum_limit + 2 * node_lines
+  pub storages : length o.storages ≤ 2 * size_sum_limit + 2 * node_lines
   pub bytes : all_bytes o.storages ≤ size_sum_limit + 2 * node_lines
-  pub storage : c.storage ≤ storage_lines + (size_sum_limit + 2 * node_lines)
-  pub temporary : c.temporary ≤ greatest_16 + (size_sum_limit + 2 * node_lines)
+  pub storage : c.storage ≤ storage_lines + (2 * size_sum_limit + 2 * node_lines)
+  pub temporary : c.temporary ≤ greatest_16 + (2 * size_sum_limit + 2 * node_lines)
   pub records : records v ≤ weight_sum_limit
 
 pub ends : (T : Tables) → Readable T → (v : Value) (c : Counters) (o : Out) → lowered T ≡ done v c o → Ends c o v

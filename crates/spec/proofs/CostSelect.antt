@@ -1,9 +1,7 @@
 -- The own steps of select, addresses and pointer offsets, each within its budget.
-use Prim.Native.Nat.{ℕ, ◌+◌, ◌*◌, ◌≤◌}
+use Prim.Native.Nat.{ℕ, ◌*◌, ◌≤◌}
 use mathlib.Core.Bool.{Bool, true, false}
 use mathlib.Core.List.{List, [], ◌∷◌, map}
-use Rattle.std.specs.Prelude.{Some}
-use Rattle.std.proofs.lemmas.Option.{none-some, same_Some}
 use mathlib.Core.Path.{◌≡◌, refl, sym, ap, ◌∙◌}
 use native.Mathlib.Omega.{arith}
 use native.Mathlib.Nat.{le_trans, le_of_eq}
@@ -15,16 +13,18 @@ use Rattle.spec.specs.Lir.{Storage, ByteStorage, BitOperand, ValueOperand, bit_o
 use Rattle.spec.specs.Lir as lir
 use Rattle.spec.specs.Monad.{◌>>=◌, ◌>>◌, emit}
 use Rattle.spec.specs.Operands.{value_bytes, resize}
-use Rattle.spec.specs.Allocation.{pointer_type, Location, allocate_carry, allocate_temporary, location_bytes, location_value_storages}
+use Rattle.spec.specs.Allocation.{pointer_type, Location, allocate_storage, allocate_bit_temporary, allocate_carry, allocate_temporary, location_bytes, location_value_storages}
 use Rattle.spec.specs.Places.{is_one}
 use Rattle.spec.specs.ReadBytes.{read_location}
 use Rattle.spec.specs.Arithmetic.{carry_in, adds, first_storage}
-use Rattle.spec.specs.Select.{select_piece, select_pieces, select_to_location, lower_select, require_addressable, second_storage, materialize_location_address, lower_address_of, lower_static_address, lower_function_address, lower_pointer_offset}
-use Rattle.spec.specs.Demands.{kind_bytes, to_byte, writes}
-use Rattle.spec.proofs.CostLogic.{Cost, free, Does, Each, none_left, ◌also◌, each_first, each_rest, Kind, Any, ◌then◌, ◌next◌, within, giving}
-use Rattle.spec.proofs.CostSteps.{emitted, Inside, answers, known, required, emitting, emitting_one, narrowing, allocating}
+use Rattle.spec.specs.Select.{select_as_byte, select_piece, select_pieces, select_to_location, lower_select, require_addressable, second_storage, materialize_location_address, lower_address_of, lower_static_address, lower_function_address, lower_pointer_offset}
+use Rattle.spec.specs.Demands.{kind_bytes, to_byte, writes, all_bytes, chosen_bits, numbered}
+use Rattle.spec.proofs.Bools.{and_true}
+use borrow.Author.Tests.{eq-eqb}
+use Rattle.spec.proofs.CostLogic.{Cost, ◌⊞◌, free, Does, Each, none_left, ◌also◌, each_first, each_rest, Kind, Any, ◌then◌, ◌next◌, within, giving}
+use Rattle.spec.proofs.CostSteps.{emitted, allocated, made_inside, answers, refuses, known, required, emitting, emitting_one, narrowing, allocating}
 use Rattle.spec.proofs.CostWrites.{Byte, writes_byte, writes_two, writes_bit, carried, zip3_length, zip3_each}
-use Rattle.spec.proofs.CostReads.{size_of, weight_of, bools_of, bools_of_le, Small}
+use Rattle.spec.proofs.CostReads.{reading, size_of, weight_of, bools_of, bools_of_le, Small}
 use Rattle.spec.proofs.CostTemporary.{Temporary, temporary_count, temporary_does, destined, read_temporary}
 use Rattle.spec.proofs.CostShifts.{first_byte}
 use Rattle.spec.proofs.CostPlaces.{base_does}
@@ -36,29 +36,55 @@ data Piece (L : List Storage) : ValueStorage → Type 0 where
   bit_piece : {s : ℕ} → Kind L s lir.bit → Piece L (bit_storage s)
   byte_piece : {d : ByteStorage} → Byte L d → Piece L (byte_storage d)
 
+bit_kind : {L : List Storage} {s : ℕ} → Piece L (bit_storage s) → Kind L s lir.bit
+bit_kind (bit_piece k) = k
+
+byte_kind : {L : List Storage} {d : ByteStorage} → Piece L (byte_storage d) → Byte L d
+byte_kind (byte_piece b) = b
+
+-- n pieces: an instruction each, and one and a bit more where two bits are chosen for a byte
+abbrev choosing : ℕ → Cost
+choosing n = record { instructions = 2 * n; storages = n; bytes = 0; other_instructions = n; other_storages = 0; chosen = n }
+
 module _ {L : List Storage} (c : BitOperand) where
-  -- a piece is written where it stands
-  piece_inside : (d : ValueStorage) (t f : ValueOperand) (i : InstructionKind) → Piece L d → select_piece c d t f ≡ Some i → Inside L i
+  -- one step, so that its bit counts for one of its instructions
+  as_byte_does : {P : Type 0} (d : ByteStorage) (t f : BitOperand) → (P → Byte L d) → Does L P (select_as_byte c d t f) (choosing 1) Any
+  unfolding select_as_byte allocate_bit_temporary allocate_storage ◌>>=◌ ◌>>◌ kind_bytes all_bytes chosen_bits numbered writes
+  as_byte_does d t f g =
+      record {
+        run = λ h c. (
+          record { storage = refl; temporary = refl; ids = and_true (eq-eqb c.storage c.storage refl) refl },
+          λ given here.
+              record {
+                cost = omega arith;
+                inside = made_inside L h _ (writes_bit refl (each_first here) also writes_byte refl (g given) also none_left);
+                result = tt;
+              },
+        );
+      }
+
+  -- a piece is written where it stands; two bits for a byte have a new bit besides
+  piece_does : {P : Type 0} (d : ValueStorage) (t f : ValueOperand) → (P → Piece L d) → Does L P (select_piece c d t f) (choosing 1) Any
   unfolding select_piece writes
-  piece_inside (bit_storage d) (bit_operand t) (bit_operand f) i (bit_piece k) e = rw (← same_Some _ i e) (writes_bit refl k)
-  piece_inside (bit_storage d) (bit_operand t) (byte_operand f) i p e = absurd (none-some i e)
-  piece_inside (bit_storage d) (byte_operand t) f i p e = absurd (none-some i e)
-  piece_inside (byte_storage d) (byte_operand t) (byte_operand f) i (byte_piece b) e = rw (← same_Some _ i e) (writes_byte refl b)
-  piece_inside (byte_storage d) (byte_operand t) (bit_operand f) i p e = absurd (none-some i e)
-  piece_inside (byte_storage d) (bit_operand t) f i p e = absurd (none-some i e)
+  piece_does (bit_storage d) (bit_operand t) (bit_operand f) g = within (emitting_one _ (λ p. writes_bit refl (bit_kind (g p)))) (λ p. omega arith)
+  piece_does (bit_storage d) (bit_operand t) (byte_operand f) g = refuses
+  piece_does (bit_storage d) (byte_operand t) f g = refuses
+  piece_does (byte_storage d) (byte_operand t) (byte_operand f) g = within (emitting_one _ (λ p. writes_byte refl (byte_kind (g p)))) (λ p. omega arith)
+  piece_does (byte_storage d) (byte_operand t) (bit_operand f) g = refuses
+  piece_does (byte_storage d) (bit_operand t) (bit_operand f) g = as_byte_does d t f (λ p. byte_kind (g p))
+  piece_does (byte_storage d) (bit_operand t) (byte_operand f) g = refuses
 
   -- no more pieces than destinations
-  pieces_does : (ds : List ValueStorage) {P : Type 0} (ts fs : List ValueOperand) → (P → Each (Piece L) ds)
-      → Does L P (select_pieces c ds ts fs) (emitted (length ds)) Any
+  pieces_does : {P : Type 0} (ds : List ValueStorage) (ts fs : List ValueOperand) → (P → Each (Piece L) ds)
+      → Does L P (select_pieces c ds ts fs) (choosing (length ds)) Any
   unfolding select_pieces
-  pieces_does [] ts fs g = answers (λ p. tt)
+  pieces_does [] ts fs g = within (answers (λ p. tt)) (λ p. omega arith)
   pieces_does (d ∷ ds) [] fs g = within (answers (λ p. tt)) (λ p. omega arith)
   pieces_does (d ∷ ds) (t ∷ ts) [] g = within (answers (λ p. tt)) (λ p. omega arith)
   pieces_does (d ∷ ds) (t ∷ ts) (f ∷ fs) g =
       within
-      (known _ _ then λ i.
-      emitting_one _ (λ p. piece_inside d t f i (each_first (g p.0)) p.1) next λ _.
-      pieces_does ds ts fs (λ p. each_rest (g p.0.0)))
+      (piece_does d t f (λ p. each_first (g p)) next λ _.
+      pieces_does ds ts fs (λ p. each_rest (g p.0)))
       (λ p. omega arith)
 
 -- what a Bool and a pointer are
@@ -85,11 +111,11 @@ record Pieces (T : Tables) (L : List Storage) (ty : ℕ) (ds : List ValueStorage
 
 -- behind the bit of its condition
 abbrev pub selecting : ℕ → Cost
-selecting n = record { instructions = 2 * n; storages = n + 1; bytes = n }
+selecting n = choosing n ⊞ allocated 1 n ⊞ reading n
 
 -- an address: an instruction and a pointer
 abbrev pub addressing : Cost
-addressing = record { instructions = 1; storages = 1; bytes = 2 }
+addressing = emitted 1 ⊞ allocated 1 2
 
 module _ (T : Tables) (R : TypesRight T) {L : List Storage} where
   -- a temporary's pieces: its bit, or its bytes
@@ -105,7 +131,7 @@ module _ (T : Tables) (R : TypesRight T) {L : List Storage} where
   temporary_pieces {ty} {l} t = pieces_of l.is_bit l.storage l.offset l.ty ty t
 
   to_location_does : {P : Type 0} (l : Location) (c : BitOperand) (t f : Value) (ty : ℕ) → (P → Temporary T L ty l)
-      → Does L P (select_to_location T l c t f) (emitted (size_of T ty)) Any
+      → Does L P (select_to_location T l c t f) (choosing (size_of T ty)) Any
   unfolding select_to_location
   to_location_does l c t f ty g =
       within
@@ -172,7 +198,7 @@ module _ (T : Tables) (R : TypesRight T) {L : List Storage} where
   lower_function_address_does f = pointing (λ ds. function_address (first_storage ds) (second_storage T ds) f) (λ ds. refl)
 
   -- a pointer and a carry: what a node of no bytes may have
-  pub lower_pointer_offset_does : {P : Type 0} (b o : Value) → Does L P (lower_pointer_offset T b o) (record { instructions = 2; storages = 2; bytes = 2 }) (Small 1)
+  pub lower_pointer_offset_does : {P : Type 0} (b o : Value) → Does L P (lower_pointer_offset T b o) (emitted 2 ⊞ allocated 2 2) (Small 1)
   unfolding lower_pointer_offset value_bytes allocate_carry adds kind_bytes writes
   lower_pointer_offset_does b o =
       giving
@@ -180,7 +206,7 @@ module _ (T : Tables) (R : TypesRight T) {L : List Storage} where
       known _ _ then λ offset.
       required _ _ next λ _.
       destined T 1 λ t ds.
-      allocating _ _ _ then λ c.
+      allocating _ _ _ refl then λ c.
       emitting (size_of T 1) (adds c ds (take 2 base) (resize 2 offset))
       (λ p. le_trans (zip3_length _ 0 ds (take 2 base) (resize 2 offset)) (le_of_eq p.0.1.count))
       (λ p. zip3_each _ (λ i d x y q. carried (add d x y (carry_in c i)) (length ds) i refl refl q p.1) 0

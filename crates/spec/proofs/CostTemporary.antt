@@ -24,8 +24,8 @@ use Rattle.spec.proofs.CostReads.{size_of, weight_of, bools_of, reading, Small, 
 sized_does : {L : List Storage} {P : Type 0} (n : ℕ) → Does L P (allocate_sized n) (allocated 1 n) (λ s. Each (Byte L) (bytes_from s 0 n))
 unfolding allocate_sized kind_bytes
 sized_does zero = refuses
-sized_does (suc zero) = giving (allocating _ _ _) (λ p. omega arith) (λ s p k. bytes_inside s 0 1 _ k (omega arith))
-sized_does (suc (suc n)) = giving (allocating _ _ _) (λ p. omega arith) (λ s p k. bytes_inside s 0 (suc (suc n)) _ k (omega arith))
+sized_does (suc zero) = giving (allocating _ _ _ refl) (λ p. omega arith) (λ s p k. bytes_inside s 0 1 _ k (omega arith))
+sized_does (suc (suc n)) = giving (allocating _ _ _ refl) (λ p. omega arith) (λ s p k. bytes_inside s 0 (suc (suc n)) _ k (omega arith))
 
 -- a bit for type 0, bytes for any other
 pub record Temporary (T : Tables) (L : List Storage) (ty : ℕ) (l : Location) : Type 0 where
@@ -54,7 +54,7 @@ module _ (T : Tables) {L : List Storage} where
   unfolding allocate_temporary type_size bytes_at kind_bytes
   temporary_does zero =
       within
-      (allocating _ _ _ then λ s.
+      (allocating _ _ _ refl then λ s.
       answers (λ p. record { of_type = refl; bool = λ e. refl; bit = λ e. p.1; bytes = λ e. absurd (false≢true (sym e)) }))
       (λ p. omega arith)
   temporary_does (suc ty) =

@@ -19,17 +19,23 @@ use Rattle.spec.proofs.CostLocal.{Own, own_step}
 abbrev pub tree_budget : Tables → Expr → Cost
 tree_budget T e =
     record {
-      instructions = node_sum (λ ty. 2 * size_of T ty + 2) e;
-      storages = node_sum (λ ty. size_of T ty + 2) e;
+      instructions = node_sum (λ ty. 3 * size_of T ty + 2) e;
+      storages = node_sum (λ ty. 2 * size_of T ty + 2) e;
       bytes = node_sum (λ ty. size_of T ty + 2) e;
+      other_instructions = node_sum (λ ty. 2 * size_of T ty + 2) e;
+      other_storages = node_sum (λ ty. size_of T ty + 2) e;
+      chosen = node_sum (size_of T) e;
     }
 
 abbrev pub trees_budget : Tables → Exprs → Cost
 trees_budget T es =
     record {
-      instructions = node_sums (λ ty. 2 * size_of T ty + 2) es;
-      storages = node_sums (λ ty. size_of T ty + 2) es;
+      instructions = node_sums (λ ty. 3 * size_of T ty + 2) es;
+      storages = node_sums (λ ty. 2 * size_of T ty + 2) es;
       bytes = node_sums (λ ty. size_of T ty + 2) es;
+      other_instructions = node_sums (λ ty. 2 * size_of T ty + 2) es;
+      other_storages = node_sums (λ ty. size_of T ty + 2) es;
+      chosen = node_sums (size_of T) es;
     }
 
 module _ (T : Tables) (R : TypesRight T) {L : List Storage} where

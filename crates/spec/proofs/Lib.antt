@@ -4,6 +4,9 @@ pub mod Readings
 pub mod Readings02
 pub mod Numbers
 pub mod Raised
+pub mod Unless
+pub mod Widened
+pub mod WidenedCost
 pub mod Bools
 pub mod Lengths
 pub mod Answers

@@ -99,7 +99,7 @@ pub the_readings_hold : Hold readings
 unfolding readings computing
 the_readings_hold = refl
 
--- the differences D1 to D4 of docs/DIFFERENCES.md, where the Rust panics, overflows or knows no bound
+-- the differences D1 to D4 of docs/DIFFERENCES.md, where the Rust panics, overflows or knows no bound, and D9, where it refuses 24
 unfoldable pub differences : List Case
 differences =
     -- D1
@@ -118,6 +118,10 @@ differences =
     gives
     ("f,0,0" ∷ "t,bool" ∷ "t,pointer" ∷ "t,bits,8" ∷ "t,opaque,17" ∷ "s,1,0,0,0" ∷ "v,0,0,2,0" ∷ "p,variable,0" ∷ "n,2,read,0" ∷ "n,1,null" ∷ "n,3,convert,1,1" ∷ "n,2,binary,13,0,2" ∷ [])
     ("storage,1,1,0,0,0,36" ∷ "i,copy,1.0,0.0,3" ∷ "value,2,bytes,1,1.0" ∷ "done,1,1,1" ∷ []) ∷
+    -- D9
+    gives
+    ("f,0,0" ∷ "t,bool" ∷ "t,pointer" ∷ "n,1,bool,1" ∷ "n,1,bool,0" ∷ "n,1,bool,1" ∷ "n,1,select,0,1,2" ∷ [])
+    ("storage,0,2,2,0,0,36" ∷ "storage,1,0,0,9,1,36" ∷ "i,selbit,1,#1,#1,#0,3" ∷ "i,bittobyte,0.0,1,3" ∷ "value,1,bytes,2,0.0,0.1" ∷ "done,2,2,2" ∷ []) ∷
     []
 
 pub the_differences_hold : Hold differences

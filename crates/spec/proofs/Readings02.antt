@@ -1,4 +1,4 @@
--- Document 02's decided readings (E7 and E5): tickets, each with a line of its answer, computed.
+-- Document 02's decided readings (E7, E5 and E3): tickets, each with a line of its answer, computed.
 use Prim.Native.Nat.{ℕ}
 use Prim.Native.String.{String}
 use mathlib.Core.Bool.{Bool, true, false, ◌||◌}
@@ -68,3 +68,38 @@ of_limits =
 pub of_limits_hold : all_true (map in_plain_answer of_limits) ≡ true
 unfolding of_limits has_line computing print.plain_instruction_line print.print_plain_listing plain_lowering plain_reading plain_answer
 of_limits_hold = refl
+
+-- ---------------------------------------------------------------- E3
+
+unfoldable pub of_selects : List Shown
+of_selects =
+    -- A1. The bit storage comes behind the select's temporary, and advances the counter
+    shows ("f,0,0" ∷ "t,bool" ∷ "t,pointer" ∷ "t,struct,0" ∷ "n,0,bool,1" ∷ "n,2,aggregate,0" ∷ "n,0,bool,0" ∷ "n,2,aggregate,2" ∷ "n,0,bool,1" ∷ "n,2,select,1,3,4" ∷ [])
+    "storage,1,0,0,9,1,36" ∷
+    shows ("f,0,0" ∷ "t,bool" ∷ "t,pointer" ∷ "t,struct,0" ∷ "n,0,bool,1" ∷ "n,2,aggregate,0" ∷ "n,0,bool,0" ∷ "n,2,aggregate,2" ∷ "n,0,bool,1" ∷ "n,2,select,1,3,4" ∷ [])
+    "storage,2,0,0,8,2,36" ∷
+    -- A2. A new storage for each pair, and each pair whole before the next
+    shows ("f,0,0" ∷ "t,bool" ∷ "t,pointer" ∷ "t,struct,0,0" ∷ "n,0,bool,1" ∷ "n,0,bool,0" ∷ "n,2,aggregate,0,1" ∷ "n,0,bool,0" ∷ "n,0,bool,1" ∷ "n,2,aggregate,3,4" ∷ "n,0,bool,1" ∷ "n,2,select,2,5,6" ∷ [])
+    "i,selbit,2,#1,#0,#1" ∷
+    shows ("f,0,0" ∷ "t,bool" ∷ "t,pointer" ∷ "t,struct,0,0" ∷ "n,0,bool,1" ∷ "n,0,bool,0" ∷ "n,2,aggregate,0,1" ∷ "n,0,bool,0" ∷ "n,0,bool,1" ∷ "n,2,aggregate,3,4" ∷ "n,0,bool,1" ∷ "n,2,select,2,5,6" ∷ [])
+    "done,6,5,5" ∷
+    -- A3. Any byte destination with two bits, record or not
+    shows ("f,0,0" ∷ "t,bool" ∷ "t,pointer" ∷ "t,bits,8" ∷ "n,0,bool,1" ∷ "n,2,convert,11,0" ∷ "n,0,bool,0" ∷ "n,2,convert,11,2" ∷ "n,0,bool,1" ∷ "n,2,select,1,3,4" ∷ [])
+    "value,2,bytes,1,0.0" ∷
+    -- A5. The pairs are still zipped: the shortest list ends them
+    shows ("f,0,0" ∷ "t,bool" ∷ "t,pointer" ∷ "t,bits,8" ∷ "t,struct,0" ∷ "n,0,bool,1" ∷ "n,0,bool,1" ∷ "n,3,aggregate,0,1" ∷ "n,0,bool,0" ∷ "n,2,int,7" ∷ "n,3,aggregate,3,4" ∷ "n,0,bool,1" ∷ "n,3,select,2,5,6" ∷ [])
+    "done,3,3,3" ∷
+    -- A6. Mixed records: one unlike pair refuses the whole select
+    shows ("f,0,0" ∷ "t,bool" ∷ "t,pointer" ∷ "t,struct,0,0" ∷ "s,2,2,1,36" ∷ "v,0,0,2,0" ∷ "p,variable,0" ∷ "n,2,read,0" ∷ "n,2,null" ∷ "n,0,bool,1" ∷ "n,2,select,1,0,2" ∷ [])
+    "refused,24,11" ∷
+    -- A7. Units and records of no size
+    shows ("f,0,0" ∷ "t,bool" ∷ "t,pointer" ∷ "t,struct" ∷ "n,2,aggregate" ∷ "n,2,aggregate" ∷ "n,0,bool,1" ∷ "n,2,select,0,1,2" ∷ [])
+    "refused,23,8" ∷
+    -- A8. A ticket can stay refused 24 and still change
+    shows ("f,0,0" ∷ "t,bool" ∷ "t,pointer" ∷ "t,bits,8" ∷ "t,struct,0" ∷ "n,0,bool,1" ∷ "n,3,aggregate,0" ∷ "n,0,bool,0" ∷ "n,3,aggregate,2" ∷ "n,0,bool,1" ∷ "n,3,select,1,3,4" ∷ "n,2,unary,1,5" ∷ [])
+    "refused,24,12" ∷
+    []
+
+pub of_selects_hold : all_true (map in_plain_answer of_selects) ≡ true
+unfolding of_selects has_line computing print.plain_instruction_line print.print_plain_listing plain_lowering plain_reading plain_answer
+of_selects_hold = refl

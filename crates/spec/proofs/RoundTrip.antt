@@ -32,6 +32,7 @@ purpose Lir.compare = refl
 purpose Lir.integer_to_boolean = refl
 purpose Lir.condition = refl
 purpose Lir.read_bool = refl
+purpose Lir.select_bool = refl
 
 kind : (k : Lir.StorageKind) → read.kind_of (print.kind_number k) (print.kind_length k) ≡ Some k
 unfolding read.kind_of print.kind_number print.kind_length

@@ -24,9 +24,9 @@ abbrev run_answer : Memory → Answer → Option Data
 run_answer M (refused n l) = None
 run_answer M (accepted s) = run_listing M (back.read_listing s)
 
--- what the ticket's listing, in a buffer of 2,000 bytes, leaves in the value
+-- what the ticket's listing, in a buffer of 4,000 bytes, leaves in the value
 abbrev pub left_by : List String → Memory → Option Data
-left_by ticket M = run_answer M (answer (text ticket) 2000)
+left_by ticket M = run_answer M (answer (text ticket) 4000)
 
 -- document 01's printed case, with 505 in the variable
 printed_case : left_by ("f,0,0" ∷ "t,bool" ∷ "t,pointer" ∷ "t,bits,9" ∷ "s,2,2,1,36" ∷ "v,0,0,2,0" ∷ "p,variable,0" ∷

@@ -6,7 +6,7 @@ use Rattle.spec.specs.Ticket.{Tables, type_size_in}
 use Rattle.spec.specs.Readable.{line_sum, root}
 use Rattle.spec.specs.Read.{read_ticket}
 use Rattle.spec.specs.Read as reading
-use Rattle.spec.specs.Lir.{ByteStorage, StorageKind, Storage, InstructionKind, Instruction, Listing, copy_byte, not_byte, byte_binary, add, subtract, rotate, address_of, function_address, shift_bytes, compare_bytes, select_byte, select_bit, bit_to_byte, byte_to_bit, sign_extend, integer_unary_bytes, integer_binary_bytes}
+use Rattle.spec.specs.Lir.{ByteStorage, StorageKind, Purpose, Storage, InstructionKind, Instruction, Listing, copy_byte, not_byte, byte_binary, add, subtract, rotate, address_of, function_address, shift_bytes, compare_bytes, select_byte, select_bit, bit_to_byte, byte_to_bit, sign_extend, integer_unary_bytes, integer_binary_bytes}
 use Rattle.spec.specs.Lir as lir
 use Rattle.spec.specs.ReadBack.{read_listing}
 use Rattle.spec.specs.Machine.{Memory, Proper, Given, run}
@@ -103,13 +103,35 @@ unfoldable pub numbered : ℕ → List Storage → Bool
 numbered n [] = true
 numbered n (s ∷ ss) = eqb s.id n && numbered (suc n) ss
 
+-- 1 for a bit that a select chooses for a byte
+abbrev pub chosen_by : Purpose → ℕ
+chosen_by lir.tmp = 0
+chosen_by lir.add_carry = 0
+chosen_by lir.subtract_borrow = 0
+chosen_by lir.negate_borrow = 0
+chosen_by lir.pointer_carry = 0
+chosen_by lir.compare = 0
+chosen_by lir.integer_to_boolean = 0
+chosen_by lir.condition = 0
+chosen_by lir.read_bool = 0
+chosen_by lir.select_bool = 1
+
+-- how many bits a select has chosen for bytes
+unfoldable pub chosen_bits : List Storage → ℕ
+chosen_bits [] = 0
+chosen_bits (s ∷ ss) = chosen_by s.purpose + chosen_bits ss
+
 -- the bytes s are a listing for a ticket of n nodes whose types add up to S bytes, and of so many older storages
 pub record Costs (S n older : ℕ) (s : List ℕ) : Type 0 where
   pub listing : Listing
   pub reads : read_listing s ≡ Some listing
-  pub instructions : length listing.instructions ≤ 2 * S + 2 * n
-  pub storages : length listing.storages ≤ S + 2 * n
+  pub instructions : length listing.instructions ≤ 3 * S + 2 * n
+  pub storages : length listing.storages ≤ 2 * S + 2 * n
   pub bytes : all_bytes listing.storages ≤ S + 2 * n
+  -- beyond 2S + 2n and S + 2n there is but one of each for each bit that a select has chosen for a byte
+  pub other_instructions : length listing.instructions ≤ 2 * S + 2 * n + chosen_bits listing.storages
+  pub other_storages : length listing.storages ≤ S + 2 * n + chosen_bits listing.storages
+  pub chosen : chosen_bits listing.storages ≤ S
   pub new : numbered older listing.storages ≡ true
   pub inside : writes_inside listing.storages listing.instructions ≡ true
   pub instruction_count : listing.done.instructions ≡ length listing.instructions

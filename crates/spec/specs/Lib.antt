@@ -20,6 +20,7 @@ pub mod Select
 pub mod Lower
 pub mod Answer
 pub mod Before
+pub mod BeforeSelect
 pub mod Machine
 pub mod Typed
 pub mod Eval

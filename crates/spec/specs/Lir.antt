@@ -82,7 +82,7 @@ pub data StorageKind : Type 0 where
 
 -- what a storage's name begins with
 pub data Purpose : Type 0 where
-  tmp add_carry subtract_borrow negate_borrow pointer_carry compare integer_to_boolean condition read_bool : Purpose
+  tmp add_carry subtract_borrow negate_borrow pointer_carry compare integer_to_boolean condition read_bool select_bool : Purpose
 
 -- a new storage: its number, its name as purpose and number, and the sum of 2 ^ k over the regions allowed
 pub record Storage : Type 0 where

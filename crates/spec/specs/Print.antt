@@ -30,6 +30,7 @@ purpose_number Lir.compare = 5
 purpose_number Lir.integer_to_boolean = 6
 purpose_number Lir.condition = 7
 purpose_number Lir.read_bool = 8
+purpose_number Lir.select_bool = 9
 
 -- by `ShiftOp` from 0
 unfoldable pub shift_number : Lir.ShiftOp → ℕ

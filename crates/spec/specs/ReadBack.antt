@@ -150,7 +150,7 @@ binary_ops =
 unfoldable pub purposes : List (Option Lir.Purpose)
 purposes =
     Some Lir.tmp ∷ Some Lir.add_carry ∷ Some Lir.subtract_borrow ∷ Some Lir.negate_borrow ∷ Some Lir.pointer_carry ∷
-    Some Lir.compare ∷ Some Lir.integer_to_boolean ∷ Some Lir.condition ∷ Some Lir.read_bool ∷ []
+    Some Lir.compare ∷ Some Lir.integer_to_boolean ∷ Some Lir.condition ∷ Some Lir.read_bool ∷ Some Lir.select_bool ∷ []
 
 -- ---------------------------------------------------------------- instructions
 

@@ -1,33 +1,41 @@
 -- `lower_select` and `select_to_location`; addresses; `lower_pointer_offset`.
 use Rattle.std.specs.Prelude.{ℕ, Bool, true, false, ◌&&◌, not, List, [], ◌∷◌, eqb, leb, length, get_or, take}
-use Rattle.std.specs.Prelude.{Option, None, Some}
 use Rattle.spec.specs.Hir.{Place}
 use Rattle.spec.specs.Ticket.{Tables, storage_at}
-use Rattle.spec.specs.Lir.{ByteStorage, BitOperand, ValueOperand, bit_operand, byte_operand, ValueStorage, bit_storage, byte_storage, InstructionKind, address_of, function_address, select_byte, select_bit, Value, flatten_value_operands, pointer_carry}
-use Rattle.spec.specs.Monad.{Lower, ◌>>=◌, ◌>>◌, pure, narrow, emit, emits, or_refuse, require}
+use Rattle.spec.specs.Lir.{ByteStorage, BitOperand, stored_bit, ValueOperand, bit_operand, byte_operand, ValueStorage, bit_storage, byte_storage, address_of, function_address, select_byte, select_bit, bit_to_byte, Value, flatten_value_operands, pointer_carry, select_bool}
+use Rattle.spec.specs.Monad.{Lower, ◌>>=◌, ◌>>◌, pure, refuse, narrow, emit, emits, or_refuse, require}
 use Rattle.spec.specs.Operands.{nth, value_type, value_bytes, resize}
-use Rattle.spec.specs.Allocation.{pointer_type, Location, allocate_temporary, allocate_carry, location_bytes, location_value_storages}
+use Rattle.spec.specs.Allocation.{pointer_type, Location, allocate_temporary, allocate_bit_temporary, allocate_carry, location_bytes, location_value_storages}
 use Rattle.spec.specs.Places.{is_one, resolve_place_base}
 use Rattle.spec.specs.ReadBytes.{read_location}
 use Rattle.spec.specs.Arithmetic.{adds, first_storage}
 
 -- ---------------------------------------------------------------- select
 
-unfoldable pub select_piece : BitOperand → ValueStorage → ValueOperand → ValueOperand → Option InstructionKind
-select_piece c (bit_storage d) (bit_operand t) (bit_operand f) = Some (select_bit d c t f)
-select_piece c (bit_storage d) (bit_operand t) (byte_operand f) = None
-select_piece c (bit_storage d) (byte_operand t) f = None
-select_piece c (byte_storage d) (byte_operand t) (byte_operand f) = Some (select_byte d c t f)
-select_piece c (byte_storage d) (byte_operand t) (bit_operand f) = None
-select_piece c (byte_storage d) (bit_operand t) f = None
+-- two bits for a byte: one of them is chosen into a new bit, and that becomes the byte
+unfoldable pub select_as_byte : BitOperand → ByteStorage → BitOperand → BitOperand → Lower Unit
+select_as_byte c d t f = do
+  b ← allocate_bit_temporary select_bool
+  emit (select_bit b c t f)
+  emit (bit_to_byte d (stored_bit b))
 
+-- 24: a bit meets a byte, or bytes a bit's storage
+unfoldable pub select_piece : BitOperand → ValueStorage → ValueOperand → ValueOperand → Lower Unit
+select_piece c (bit_storage d) (bit_operand t) (bit_operand f) = emit (select_bit d c t f)
+select_piece c (bit_storage d) (bit_operand t) (byte_operand f) = refuse 24
+select_piece c (bit_storage d) (byte_operand t) f = refuse 24
+select_piece c (byte_storage d) (byte_operand t) (byte_operand f) = emit (select_byte d c t f)
+select_piece c (byte_storage d) (byte_operand t) (bit_operand f) = refuse 24
+select_piece c (byte_storage d) (bit_operand t) (bit_operand f) = select_as_byte c d t f
+select_piece c (byte_storage d) (bit_operand t) (byte_operand f) = refuse 24
+
+-- pair by pair: the shortest list ends them
 unfoldable pub select_pieces : BitOperand → List ValueStorage → List ValueOperand → List ValueOperand → Lower Unit
 select_pieces c [] ts fs = pure tt
 select_pieces c (d ∷ ds) [] fs = pure tt
 select_pieces c (d ∷ ds) (t ∷ ts) [] = pure tt
 select_pieces c (d ∷ ds) (t ∷ ts) (f ∷ fs) = do
-  i ← or_refuse 24 (select_piece c d t f)
-  emit i
+  select_piece c d t f
   select_pieces c ds ts fs
 
 module _ (T : Tables) where

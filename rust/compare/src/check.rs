@@ -42,6 +42,7 @@ enum Difference {
     Ticket {
         room: usize,
     },
+    Refuses,
 }
 
 impl fmt::Display for Difference {
@@ -68,6 +69,7 @@ impl fmt::Display for Difference {
             }
             Self::Guard { room } => write!(f, "room {room}: a byte outside the buffer was written"),
             Self::Ticket { room } => write!(f, "room {room}: the ticket was written"),
+            Self::Refuses => write!(f, "ours refuses a select of two bits for a byte"),
         }
     }
 }
@@ -77,7 +79,36 @@ fn original_answer(ticket: &[u8]) -> Result<Answer, Difference> {
     catch_unwind(AssertUnwindSafe(|| {
         original::answer_with_nodes(ticket, usize::MAX)
     }))
-        .map_err(|_| Difference::OriginalPanics)
+    .map_err(|_| Difference::OriginalPanics)
+}
+
+/// A ticket that has left the original's domain: ours does not refuse the
+/// select that the original refuses.
+fn try_changed(lowerer: &mut Lowerer, ticket: &[u8], was: Refusal) -> Result<(), Difference> {
+    let mut listing = vec![0; 65_536];
+    match lowerer.lower(ticket, &mut listing) {
+        Err(refusal)
+            if (refusal.number, refusal.line) == (u64::from(was.number), was.line as u64) =>
+        {
+            Err(Difference::Refuses)
+        }
+        _ => Ok(()),
+    }
+}
+
+/// Tries one ticket, as the original answers it.
+fn try_expected(
+    lowerer: &mut Lowerer,
+    ticket: &[u8],
+    expected: &Answer,
+    salt: u64,
+) -> Result<(), Difference> {
+    match expected {
+        Answer::Refused(refusal) if original::chooses_bits(ticket, *refusal) => {
+            try_changed(lowerer, ticket, *refusal)
+        }
+        _ => try_ticket(lowerer, ticket, expected, salt),
+    }
 }
 
 /// Tries one ticket with buffers of several lengths.
@@ -176,6 +207,8 @@ struct Tally {
     bytes: usize,
     accepted: usize,
     refused: BTreeMap<u8, usize>,
+    /// Those refused 24 whose answer is another one now.
+    changed: usize,
     differences: usize,
 }
 
@@ -193,7 +226,10 @@ impl Tally {
             if printed.is_some_and(|printed| *printed != plain()) {
                 return Err(Difference::Sample);
             }
-            try_ticket(&mut self.lowerer, ticket, &expected, salt)
+            if let Answer::Refused(refusal) = expected {
+                self.changed += usize::from(original::chooses_bits(ticket, refusal));
+            }
+            try_expected(&mut self.lowerer, ticket, &expected, salt)
         });
         let Err(difference) = outcome else { return };
         self.differences += 1;
@@ -205,12 +241,12 @@ impl Tally {
             Difference::Sample => ticket.to_vec(),
             _ => shrink(ticket, |ticket| {
                 original_answer(ticket)
-                    .and_then(|expected| try_ticket(&mut self.lowerer, ticket, &expected, salt))
+                    .and_then(|expected| try_expected(&mut self.lowerer, ticket, &expected, salt))
                     .is_err()
             }),
         };
         let again = original_answer(&small)
-            .and_then(|expected| try_ticket(&mut self.lowerer, &small, &expected, salt));
+            .and_then(|expected| try_expected(&mut self.lowerer, &small, &expected, salt));
         println!("  smallest ticket found ({} bytes):", small.len());
         for line in small.split_inclusive(|&byte| byte == b'\n') {
             println!("    {}", line.escape_ascii());
@@ -227,10 +263,11 @@ impl Tally {
             .map(|(number, count)| format!("{number}: {count}"))
             .collect();
         println!(
-            "{name:10} {:8} tickets, {:10} bytes, {:8} accepted, {:6} differences, {seconds:6.1} s; refused {}",
+            "{name:10} {:8} tickets, {:10} bytes, {:8} accepted, {:6} changed, {:6} differences, {seconds:6.1} s; refused {}",
             self.tickets,
             self.bytes,
             self.accepted,
+            self.changed,
             self.differences,
             refused.join(", "),
         );

@@ -65,6 +65,14 @@ pub fn answer_with_nodes(ticket: &[u8], room: usize) -> Answer {
     )
 }
 
+/// Whether a refusal that the ticket is answered with is one that document
+/// 02's selects over bits (E3) no longer have: such a ticket has left the
+/// original's domain.
+pub fn chooses_bits(ticket: &[u8], refusal: Refusal) -> bool {
+    refusal.number == 24
+        && ticket::read(ticket).is_ok_and(|ticket| Prepared::new(&ticket).chooses_bits(refusal))
+}
+
 fn answered(listing: Result<Vec<u8>, Refusal>) -> Answer {
     match listing {
         Ok(listing) => Answer::Accepted(listing),

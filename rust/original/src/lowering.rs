@@ -15,7 +15,7 @@
 
 use crate::{
     listing,
-    ticket::{Kind, Location, Place, Ticket, Type},
+    ticket::{Kind, Location, Node, Place, Ticket, Type},
     wasm::{
         hir, lir,
         lir_lower::{Laid, LowerError, Lowered, LoweredRepr, Run, Start},
@@ -96,6 +96,62 @@ impl<'a> Prepared<'a> {
     /// timing; false as well where the original may not be called.
     pub fn lowers(&self) -> bool {
         !self.doubtful[self.last()] && self.start.lower_expression(&self.root).is_ok()
+    }
+
+    /// Whether a refusal of the original is that of a select which chooses
+    /// two bits for a byte (document 02, E3): 24 at the select's own step,
+    /// behind its condition, and no pair of pieces is unlike.
+    pub fn chooses_bits(&self, refusal: Refusal) -> bool {
+        let at = |node: &&Node| node.line == refusal.line;
+        let Some(node) = self.ticket.nodes.iter().find(at) else {
+            return false;
+        };
+        let Kind::Select(when_true, when_false, condition) = node.kind else {
+            return false;
+        };
+        let (true, Some(first), Some(second)) = (
+            refusal.number == 24 && self.is_condition(condition),
+            self.pieces(when_true),
+            self.pieces(when_false),
+        ) else {
+            return false;
+        };
+        let bit = self.types[node.ty] == hir::Type::Bool;
+        let destinations = if bit { 1 } else { self.ticket.sizes[node.ty] };
+        let mut pairs = first.into_iter().zip(second).take(destinations);
+        pairs.all(|pair| match pair {
+            (Piece::Bit, Piece::Bit) => true,
+            (Piece::Byte, Piece::Byte) => !bit,
+            _ => false,
+        })
+    }
+
+    /// Whether a node can be a select's condition: the original chooses
+    /// between two bools by it.
+    fn is_condition(&self, node: usize) -> bool {
+        let boolean = || {
+            Box::new(hir::Expression {
+                ty: hir::Type::Bool,
+                kind: hir::ExpressionKind::Constant(hir::Constant::Bool(false)),
+            })
+        };
+        let select = hir::Expression {
+            ty: hir::Type::Bool,
+            kind: hir::ExpressionKind::Select {
+                when_true: boolean(),
+                when_false: boolean(),
+                condition: Box::new(self.expression(node)),
+            },
+        };
+        self.start.lower_expression(&select).is_ok()
+    }
+
+    /// The pieces that a node lowers to.
+    fn pieces(&self, node: usize) -> Option<Vec<Piece>> {
+        let run = self.start.lower_expression(&self.expression(node)).ok()?;
+        let mut pieces = Vec::new();
+        append_pieces(&run.value, &mut pieces);
+        Some(pieces)
     }
 
     fn lower(&self) -> Result<Run, Refusal> {
@@ -284,6 +340,23 @@ impl<'a> Prepared<'a> {
                 base: base(place),
                 offset: node(offset),
             },
+        }
+    }
+}
+
+/// What a select chooses between.
+enum Piece {
+    Bit,
+    Byte,
+}
+
+fn append_pieces(value: &Lowered, pieces: &mut Vec<Piece>) {
+    match &value.repr {
+        LoweredRepr::Unit => {}
+        LoweredRepr::Bit(_) => pieces.push(Piece::Bit),
+        LoweredRepr::Bytes(bytes) => pieces.extend(bytes.iter().map(|_| Piece::Byte)),
+        LoweredRepr::Aggregate(parts) => {
+            parts.iter().for_each(|part| append_pieces(part, pieces));
         }
     }
 }

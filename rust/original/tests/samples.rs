@@ -1,6 +1,6 @@
 //! Every sample ticket, byte for byte, and single edges beside them.
 
-use original::{answer, Answer};
+use original::{answer, answer_with_nodes, chooses_bits, Answer};
 use std::{env, fs, path::PathBuf};
 
 const PRINTED: &str = "f,0,0\nt,bool\nt,pointer\nt,bits,9\ns,2,2,1,36\nv,0,0,2,0\n\
@@ -89,6 +89,77 @@ fn readings() {
     }
     let function = printed("f,0,65535/t,bool/t,pointer/n,1,function,7/");
     assert!(function.ends_with("done,1,1,65536\n"), "{function}");
+}
+
+/// The tickets of the program listing_tests with the answers that ours gives:
+/// the original's, or it refuses a select over bits (document 02, E3).
+#[test]
+fn all_but_selects_over_bits() {
+    let root = PathBuf::from(env!("CARGO_MANIFEST_DIR")).join("../..");
+    let cases = fs::read(root.join("crates/listing_tests/stdin")).unwrap();
+    let mut rest = &cases[..];
+    let (mut same, mut changed) = (0, 0);
+    while !rest.is_empty() {
+        let (head, texts) = rest.split_at(16);
+        let mut lengths = std::str::from_utf8(head)
+            .unwrap()
+            .trim_end()
+            .split(',')
+            .map(|length| length.parse().unwrap());
+        let (ticket, texts) = texts.split_at(lengths.next().unwrap());
+        let (expected, texts) = texts.split_at(lengths.next().unwrap());
+        rest = texts;
+        let answer = answer_with_nodes(ticket, 65_536);
+        let leaves = matches!(answer, Answer::Refused(refusal) if chooses_bits(ticket, refusal));
+        assert_eq!(
+            answer.printed() == expected,
+            !leaves,
+            "{}",
+            String::from_utf8_lossy(ticket)
+        );
+        *(if leaves { &mut changed } else { &mut same }) += 1;
+    }
+    println!("{same} tickets answered alike, {changed} that select bits for bytes");
+    assert!(same > 1_000 && changed > 100, "{same}, {changed}");
+}
+
+/// Selects that the original refuses 24, and whether they choose bits.
+#[test]
+fn selects_over_bits() {
+    for (ticket, line, leaves) in [
+        // two bits for a byte
+        (
+            "n,1,bool,1/n,1,bool,0/n,1,bool,1/n,1,select,0,1,2/",
+            7,
+            true,
+        ),
+        // bytes for a bit
+        ("n,0,null/n,0,null/n,0,bool,1/n,0,select,0,1,2/", 7, false),
+        // a bit and a byte, alone and behind a pair of bits
+        ("n,1,bool,1/n,1,null/n,0,bool,1/n,1,select,0,1,2/", 7, false),
+        (
+            "n,0,bool,1/n,0,bool,1/n,1,aggregate,0,1/n,0,bool,0/n,1,null/\
+             n,1,aggregate,3,4/n,0,bool,1/n,1,select,2,5,6/",
+            11,
+            false,
+        ),
+        // an unlike pair past the last byte
+        (
+            "t,bits,8/n,0,bool,1/n,0,bool,1/n,2,aggregate,0,1/n,0,bool,0/n,1,null/\
+             n,2,aggregate,3,4/n,0,bool,1/n,2,select,2,5,6/",
+            12,
+            true,
+        ),
+        // no select
+        ("n,1,bool,1/n,0,unary,1,0/", 5, false),
+    ] {
+        let ticket = format!("f,0,0/t,bool/t,pointer/{ticket}").replace('/', "\n");
+        let Answer::Refused(refusal) = answer(ticket.as_bytes(), 65_536) else {
+            panic!("{ticket} is accepted");
+        };
+        assert_eq!((refusal.number, refusal.line), (24, line), "{ticket}");
+        assert_eq!(chooses_bits(ticket.as_bytes(), refusal), leaves, "{ticket}");
+    }
 }
 
 /// What the original panics or overflows on.

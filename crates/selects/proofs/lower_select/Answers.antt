@@ -68,7 +68,7 @@ read_temporary-requires c =
     let d : c.select_values-selected.result ≡ Ok tt = search rules in
     let few : c.type_size-size.result ≤ 1024 = size_few t a.h.ty c.type_size-size.ensures in
     rw c.take-stack.ensures.value
-    (room_read (ticket_of t.lines) (bit_operand_of a.c) a.t.ty a.f.ty a.h.ty _ _ (at_of a.h) a.l.now (c.allocate_temporary.ensures (ticket_of t.lines) size) e c.if-t-f.false c.if-t-h.false size c.targets_of-targets.ensures.is c.select_values-selected.ensures d t.readable c.requires.0 (c.targets_of-targets.ensures.few few))
+    (room_read (ticket_of t.lines) (bit_operand_of a.c) a.t.ty a.f.ty a.h.ty _ _ (at_of a.h) a.l.now (c.allocate_temporary.ensures (ticket_of t.lines) size) e c.if-t-f.false c.if-t-h.false size c.targets_of-targets.ensures.is c.select_values-selected.ensures d t.readable c.requires.0 (omega (arith, c.targets_of-targets.ensures.few few)))
 
 pub returns : goal.returns
 returns c =
