@@ -260,7 +260,7 @@ def edits():
 
 def main():
     print('# What changed in the design pass, old and new side by side\n')
-    print('Old is the commit in the first line of docs/DESIGN-PASS.md, new is this tree; written by `python3 tools/contracts_page.py PORT OLD NEW`, '
+    print('Old is the commit in the first line of docs/DESIGN-PASS.md, new is the tree in which the pass ends, before E3; written by `python3 tools/contracts_page.py PORT OLD NEW`, '
           'PORT being the kit\'s folder port, OLD and NEW two checkouts.\n')
     print(f'Functions {D["functions"][0]} → {D["functions"][1]}, with `ensures` {D["with ensures"][0]} → {D["with ensures"][1]}; contracts the same {D["contracts the same"]}, '
           f'changed {len(D["contracts changed"])}; signatures changed {len(D["signatures changed"])}. Definitions {D["definitions"]["old"]} → {D["definitions"]["new"]}, the same {D["definitions"]["same"]}. '
