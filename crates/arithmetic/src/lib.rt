@@ -8,7 +8,7 @@ ghost use Rattle.spec.specs.Arithmetic.{lower_integer_unary, lower_integer_binar
 ghost use Rattle.tables.specs.Ticket.{ticket_of};
 ghost use Rattle.emission.specs.Forms.{unary_form_of, binary_form_of};
 ghost use Rattle.values.specs.Heads.{head_of, flat_of, Sound_value};
-ghost use Rattle.values.specs.Left.{counters_in, MeetsValue};
+ghost use Rattle.values.specs.Left.{counters_in, Holds, SameMarks, MeetsValue};
 ghost use Rattle.reads.specs.Reading.{at_of, StepRoom};
 
 use answers::{Refusal, Refused};
@@ -74,7 +74,9 @@ pub fn lower_integer_unary(
     h: At,
 ) -> Result<Value, Refused<Refusal>>
     requires { (Sound_value v) × (StepRoom (ticket_of tables.now.lines) h.node.0 h.ty l.old) }
-    ensures { MeetsValue l.old (lower_integer_unary (ticket_of tables.now.lines) (ticket.integer_unary_op op) (flat_of (head_of v)) h.ty (at_of h) (counters_in l.old)) l.new result }
+    ensures meets { MeetsValue l.old (lower_integer_unary (ticket_of tables.now.lines) (ticket.integer_unary_op op) (flat_of (head_of v)) h.ty (at_of h) (counters_in l.old)) l.new result }
+    ensures holds { Holds l.old l.new }
+    ensures marks { SameMarks l.old l.new }
 {
     let input = steps::value_bytes(v).ok_or(h.refuse(Refusal::UnsupportedExpression))?;
     let to = steps::byte_temporary(tables, &mut l.out, h)?;
@@ -95,7 +97,9 @@ pub fn lower_integer_binary(
     h: At,
 ) -> Result<Value, Refused<Refusal>>
     requires { (Sound_value left) × (Sound_value right) × (StepRoom (ticket_of tables.now.lines) h.node.0 h.ty l.old) }
-    ensures { MeetsValue l.old (lower_integer_binary (ticket_of tables.now.lines) (ticket.integer_binary_op op) (flat_of (head_of left)) (flat_of (head_of right)) h.ty (at_of h) (counters_in l.old)) l.new result }
+    ensures meets { MeetsValue l.old (lower_integer_binary (ticket_of tables.now.lines) (ticket.integer_binary_op op) (flat_of (head_of left)) (flat_of (head_of right)) h.ty (at_of h) (counters_in l.old)) l.new result }
+    ensures holds { Holds l.old l.new }
+    ensures marks { SameMarks l.old l.new }
 {
     let left = steps::value_bytes(left).ok_or(h.refuse(Refusal::UnsupportedExpression))?;
     let right = steps::value_bytes(right).ok_or(h.refuse(Refusal::UnsupportedExpression))?;

@@ -13,7 +13,7 @@ ghost use Rattle.lir.specs.Abstract.{bytes_of, Small};
 ghost use Rattle.tables.specs.Ticket.{ticket_of};
 ghost use Rattle.emission.specs.Appends.{Room};
 ghost use Rattle.values.specs.Heads.{head_of, flat_of, Sound_value};
-ghost use Rattle.values.specs.Left.{counters_in, MeetsValue};
+ghost use Rattle.values.specs.Left.{counters_in, Holds, SameMarks, SameStack, MeetsValue};
 ghost use Rattle.reads.specs.Reading.{at_of, StepRoom};
 ghost use Rattle.conversions.specs.Converting.{Resizes, form_of, Reinterprets, reinterpreted_of};
 
@@ -27,7 +27,7 @@ use values::{Lowering, Repr, Value};
 // How an operator converts: a variant for each arm of the `match` on it in the Rust's `lower_conversion`, so that the two can be held side
 // by side. Asked twice: by `is_reinterpret` before the operand is lowered, and then by `lower_conversion`.
 #[derive(Clone, Copy, PartialEq, Eq)]
-enum Form {
+pub enum Form {
     Resizing,
     ExtendingSign,
     Reinterpreting,
@@ -58,7 +58,9 @@ fn normalized_bytes(
     h: At,
 ) -> Result<Value, Refused<Refusal>>
     requires { (Small b) × (StepRoom (ticket_of tables.now.lines) h.node.0 h.ty l.old) }
-    ensures { MeetsValue l.old (normalized_bytes (ticket_of tables.now.lines) h.ty (bytes_of b) (at_of h) (counters_in l.old)) l.new result }
+    ensures meets { MeetsValue l.old (normalized_bytes (ticket_of tables.now.lines) h.ty (bytes_of b) (at_of h) (counters_in l.old)) l.new result }
+    ensures holds { Holds l.old l.new }
+    ensures marks { SameMarks l.old l.new }
 {
     if steps::odd_bits(tables, h.ty) == 0 {
         return Ok(Value {
@@ -79,7 +81,9 @@ fn resized(
     h: At,
 ) -> Result<Value, Refused<Refusal>>
     requires { (Sound_value v) × (StepRoom (ticket_of tables.now.lines) h.node.0 h.ty l.old) }
-    ensures { MeetsValue l.old (resized (ticket_of tables.now.lines) (flat_of (head_of v)) h.ty (at_of h) (counters_in l.old)) l.new result }
+    ensures meets { MeetsValue l.old (resized (ticket_of tables.now.lines) (flat_of (head_of v)) h.ty (at_of h) (counters_in l.old)) l.new result }
+    ensures holds { Holds l.old l.new }
+    ensures marks { SameMarks l.old l.new }
 {
     let b = steps::value_bytes(v).ok_or(h.refuse(Refusal::UnsupportedExpression))?;
     normalized_bytes(tables, l, resize(b, tables.lines.type_size(h.ty)), h)
@@ -95,7 +99,9 @@ fn sign_extended(
     h: At,
 ) -> Result<Value, Refused<Refusal>>
     requires { (Sound_value v) × (StepRoom (ticket_of tables.now.lines) h.node.0 h.ty l.old) }
-    ensures { MeetsValue l.old (sign_extended (ticket_of tables.now.lines) (flat_of (head_of v)) h.ty (at_of h) (counters_in l.old)) l.new result }
+    ensures meets { MeetsValue l.old (sign_extended (ticket_of tables.now.lines) (flat_of (head_of v)) h.ty (at_of h) (counters_in l.old)) l.new result }
+    ensures holds { Holds l.old l.new }
+    ensures marks { SameMarks l.old l.new }
 {
     let width = steps::integer_width(&tables.lines, v.ty).ok_or(h.refuse(
         Refusal::UnsupportedType,
@@ -113,7 +119,9 @@ fn boolean_to_integer(
     h: At,
 ) -> Result<Value, Refused<Refusal>>
     requires { StepRoom (ticket_of tables.now.lines) h.node.0 h.ty l.old }
-    ensures { MeetsValue l.old (boolean_to_integer (ticket_of tables.now.lines) (flat_of (head_of v)) h.ty (at_of h) (counters_in l.old)) l.new result }
+    ensures meets { MeetsValue l.old (boolean_to_integer (ticket_of tables.now.lines) (flat_of (head_of v)) h.ty (at_of h) (counters_in l.old)) l.new result }
+    ensures holds { Holds l.old l.new }
+    ensures marks { SameMarks l.old l.new }
 {
     let b = steps::value_bit(v).ok_or(h.refuse(Refusal::UnsupportedExpression))?;
     let to = steps::byte_temporary(tables, &mut l.out, h)?;
@@ -171,7 +179,9 @@ pub fn lower_conversion(
     h: At,
 ) -> Result<Value, Refused<Refusal>>
     requires { (Sound_value v) × (StepRoom (ticket_of tables.now.lines) h.node.0 h.ty l.old) }
-    ensures { (conversion_form (ticket.conversion_op op) ≡ reinterpreting → ⊥) → MeetsValue l.old (lower_conversion (ticket_of tables.now.lines) (ticket.conversion_op op) (flat_of (head_of v)) h.ty (at_of h) (counters_in l.old)) l.new result }
+    ensures meets { (conversion_form (ticket.conversion_op op) ≡ reinterpreting → ⊥) → MeetsValue l.old (lower_conversion (ticket_of tables.now.lines) (ticket.conversion_op op) (flat_of (head_of v)) h.ty (at_of h) (counters_in l.old)) l.new result }
+    ensures holds { Holds l.old l.new }
+    ensures marks { SameMarks l.old l.new }
 {
     match conversion_form(op) {
         Form::Resizing => resized(tables, l, v, h),
@@ -193,7 +203,10 @@ pub fn lower_pointer_offset(
     h: At,
 ) -> Result<Value, Refused<Refusal>>
     requires { (Sound_value base) × (Sound_value offset) × (Room 4096 l.old.out) }
-    ensures { (T : Ticket) → TypesRight T → h.node.0 ≡ l.old.out.node.0 → MeetsValue l.old (lower_pointer_offset T (flat_of (head_of base)) (flat_of (head_of offset)) (at_of h) (counters_in l.old)) l.new result }
+    ensures meets { (T : Ticket) → TypesRight T → h.node.0 ≡ l.old.out.node.0 → MeetsValue l.old (lower_pointer_offset T (flat_of (head_of base)) (flat_of (head_of offset)) (at_of h) (counters_in l.old)) l.new result }
+    ensures holds { Holds l.old l.new }
+    ensures marks { SameMarks l.old l.new }
+    ensures stack { SameStack l.old l.new }
 {
     let base = steps::value_bytes(base).ok_or(h.refuse(Refusal::UnsupportedExpression))?;
     let offset = steps::value_bytes(offset).ok_or(h.refuse(Refusal::UnsupportedExpression))?;

@@ -100,6 +100,14 @@ does_more h x =
 pub does_keeps : {A : Type 0} {n : ℕ} {e e1 : Emitter} {m : Lower A} {a : A} → Does n e m a e1 → Keeps e e1
 does_keeps {e = e} x = append_keeps (x.appends (at_node e.node.0) refl)
 
+keeps_by : (n : ℕ) (e e1 : Emitter) (m : Lower Unit) (r : Result Unit Refusal) → MeetsBy n e m e1 r → Keeps e e1
+keeps_by n e e1 m (Ok u) x = does_keeps x
+keeps_by n e e1 m (Err k) x = x.1
+
+-- done or refused, it is into the same buffers
+pub meets_keeps : {n : ℕ} {e e1 : Emitter} {m : Lower Unit} {r : Result Unit Refusal} → Meets n e m e1 r → Keeps e e1
+meets_keeps {n} {e} {e1} {m} {r} x = keeps_by n e e1 m r x.shown
+
 -- the room behind a step
 pub room_done : {A : Type 0} {n k : ℕ} {e e1 : Emitter} {m : Lower A} {a : A} → Room (n + k) e → Does n e m a e1 → Room k e1
 room_done {n} {k} {e} r x =

@@ -1,7 +1,7 @@
 -- What allocating a temporary of a type answers.
 use Rattle.std.specs.Prelude.{◌≡◌, refl, ℕ, zero, suc, eqb}
 use Rattle.std.specs.Prelude.{Result, Ok, Err}
-use Rattle.std.proofs.Common.{subst, arith, ne_eqb}
+use Rattle.std.proofs.Common.{sym, subst, arith, ne_eqb}
 use Rattle.spec.specs.Ticket.{Tables}
 use Rattle.spec.specs.Lir as lir
 use Rattle.spec.specs.Monad.{Lower, ◌>>=◌}
@@ -10,8 +10,8 @@ use Rattle.answers.specs.Refusals.{refusal_number}
 use Rattle.answers.specs.declared.Refusal.{Refusal}
 use Rattle.lir.specs.declared.StorageId.{StorageId}
 use Rattle.emission.specs.declared.emitter.Emitter.{Emitter}
-use Rattle.emission.specs.Appends.{Keeps}
-use Rattle.emission.specs.Emits.{Allocates}
+use Rattle.emission.specs.Appends.{Keeps, keeps_all}
+use Rattle.emission.specs.Emits.{Allocates, allocates_keeps}
 use Rattle.emission.specs.Does.{Refuses}
 
 -- a temporary's place: all of a storage; a bit where the type is Bool
@@ -20,7 +20,7 @@ location s ty = record { storage = s; offset = 0; ty = ty; is_bit = eqb ty 0 }
 
 abbrev pub TemporaryBy : Emitter → Lower Location → ℕ → Emitter → Result StorageId Refusal → Type 0
 TemporaryBy e m ty e' (Ok s) = Allocates e m (location s.0 ty) e'
-TemporaryBy e m ty e' (Err r) = Refuses e m (refusal_number r) × Keeps e e'
+TemporaryBy e m ty e' (Err r) = Refuses e m (refusal_number r) × (e' ≡ e)
 
 pub record MeetsTemporary (e : Emitter) (m : Lower Location) (ty : ℕ) (e' : Emitter) (r : Result StorageId Refusal) : Type 0 where
   pub shown : TemporaryBy e m ty e' r
@@ -32,8 +32,16 @@ module _ {e e1 : Emitter} {m : Lower Location} {ty : ℕ} {r : Result StorageId 
   pub temporary_placed : {s : StorageId} → r ≡ Ok s → Allocates e m (location s.0 ty) e1
   temporary_placed p = subst (λ (z : Result StorageId Refusal). TemporaryBy e m ty e1 z) p x.shown
 
-  pub temporary_refused : {k : Refusal} → r ≡ Err k → Refuses e m (refusal_number k) × Keeps e e1
+  pub temporary_refused : {k : Refusal} → r ≡ Err k → Refuses e m (refusal_number k) × (e1 ≡ e)
   temporary_refused p = subst (λ (z : Result StorageId Refusal). TemporaryBy e m ty e1 z) p x.shown
+
+keeps_by : (e e1 : Emitter) (m : Lower Location) (ty : ℕ) (r : Result StorageId Refusal) → TemporaryBy e m ty e1 r → Keeps e e1
+keeps_by e e1 m ty (Ok s) x = allocates_keeps x
+keeps_by e e1 m ty (Err k) x = subst (λ (z : Emitter). Keeps e z) (sym x.1) (keeps_all e)
+
+-- placed or refused, it is into the same buffers
+pub temporary_keeps : {e e1 : Emitter} {m : Lower Location} {ty : ℕ} {r : Result StorageId Refusal} → MeetsTemporary e m ty e1 r → Keeps e e1
+temporary_keeps {e} {e1} {m} {ty} {r} x = keeps_by e e1 m ty r x.shown
 
 module _ {e e1 : Emitter} {s : ℕ} where
   pub place_bit : (T : Tables) (ty : ℕ) → ty ≡ 0 → Allocates e (allocate_storage lir.bit lir.tmp bool_regions) s e1 → Allocates e (allocate_temporary T ty) (location s ty) e1

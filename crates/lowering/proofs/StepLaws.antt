@@ -1,5 +1,5 @@
 -- A node's own step behind its operands.
-use Rattle.std.specs.Prelude.{◌≡◌, refl, Bool, true, false, List, ◌∷◌, [], ℕ, ◌≤◌, length, eqb, Option, Result, Ok, Err}
+use Rattle.std.specs.Prelude.{◌≡◌, refl, Bool, true, false, List, ◌∷◌, [], ℕ, ◌≤◌, length, eqb, Result, Ok, Err}
 use Rattle.std.specs.Result.{IsErrAnd}
 use Rattle.std.proofs.Common.{ap, subst, ◌∙◌, append-nil}
 use Rattle.answers.specs.declared.Refusal.{Refusal}
@@ -207,13 +207,13 @@ reinterpret_meets t a {x = x} p h op e q =
 
 module _ (T : Tables) (a : Expr) {l l1 : Lowering} {x : Val} (p : LowersValue T a l l1 x) where
   module _ (h : At) (t : l.top ≤ length l.stack.now) where
-    pub extract_part : (i : ℕ) {ws : List ℕ} {r : Option (Val × ℕ)} → length ws ≡ length l1.stack.now → Extracts l1.stack.now l.top l1.top x i ws r
+    pub extract_part : (i : ℕ) {ws : List ℕ} {r : Result (Val × ℕ) Refusal} → length ws ≡ length l1.stack.now → Extracts l1.stack.now l.top l1.top x i ws r
         → MeetsPart h.line l (lower_expression T (extract_element h a i) nowhere (counters_in l)) (with_stack l1 ws) r
     unfolding lower_expression ◌>>=◌
     extract_part i {ws} n m = rw (lowered p).is (extract_meets (lowered p) t i h ws n T m)
 
     module _ (b : Expr) {l2 : Lowering} {y : Val} (q : LowersValue T b l1 l2 y) where
-      pub insert_part : (i : ℕ) {ws : List ℕ} {r : Option (Val × ℕ)} → length ws ≡ length l2.stack.now → Inserts l2.stack.now l.top l1.top l2.top x i y h.ty ws r
+      pub insert_part : (i : ℕ) {ws : List ℕ} {r : Result (Val × ℕ) Refusal} → length ws ≡ length l2.stack.now → Inserts l2.stack.now l.top l1.top l2.top x i y h.ty ws r
           → MeetsPart h.line l (lower_expression T (insert_element h a i b) nowhere (counters_in l)) (with_stack l2 ws) r
       unfolding lower_expression ◌>>=◌
       insert_part i {ws} n m = rw ((lowered p).is, (lowered q).is) (insert_meets (lowered p) (lowered q) t i h.ty h ws n T m)

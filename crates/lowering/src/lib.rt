@@ -9,7 +9,7 @@ ghost use Rattle.spec.specs.Ticket.{expr_at, nowhere};
 ghost use Rattle.spec.specs.Lower.{lower_expression};
 ghost use Rattle.tables.specs.Tables.{tree_of};
 ghost use Rattle.tables.specs.Ticket.{ticket_of};
-ghost use Rattle.values.specs.Left.{counters_in, MeetsValue};
+ghost use Rattle.values.specs.Left.{counters_in, Holds, MeetsValue};
 ghost use Rattle.reads.specs.Reading.{at_of};
 ghost use Rattle.lowering.specs.Nodes.{kids, MeetsHead};
 ghost use Rattle.lowering.specs.Rooms.{TreeRoom, NodeRoom};
@@ -30,7 +30,8 @@ pub fn lower_expression(
     depth: u64,
 ) -> Result<Value, Refused<Refusal>>
     requires { TreeRoom (ticket_of tables.now.lines) (expr_at depth (ticket_of tables.now.lines) k) l.old }
-    ensures { MeetsValue l.old (lower_expression (ticket_of tables.now.lines) (expr_at depth (ticket_of tables.now.lines) k) nowhere (counters_in l.old)) l.new result }
+    ensures meets { MeetsValue l.old (lower_expression (ticket_of tables.now.lines) (expr_at depth (ticket_of tables.now.lines) k) nowhere (counters_in l.old)) l.new result }
+    ensures holds { Holds l.old l.new }
 {
     if depth == 0 {
         return Ok(steps::lower_null(At {
@@ -62,7 +63,8 @@ fn lower_node(
     h: At,
 ) -> Result<Value, Refused<Refusal>>
     requires { NodeRoom (ticket_of tables.now.lines) h.node.0 (tree_of (ticket_of tables.now.lines) tables.now.lines.lists.now depth (at_of h) kind) l.old }
-    ensures { MeetsValue l.old (lower_expression (ticket_of tables.now.lines) (tree_of (ticket_of tables.now.lines) tables.now.lines.lists.now depth (at_of h) kind) nowhere (counters_in l.old)) l.new result }
+    ensures meets { MeetsValue l.old (lower_expression (ticket_of tables.now.lines) (tree_of (ticket_of tables.now.lines) tables.now.lines.lists.now depth (at_of h) kind) nowhere (counters_in l.old)) l.new result }
+    ensures holds { Holds l.old l.new }
 {
     match kind {
         NodeKind::Bool(v) => Ok(steps::lower_bool(v, h)),
@@ -113,7 +115,8 @@ fn lower_head(
     depth: u64,
 ) -> Result<Value, Refused<Refusal>>
     requires { TreeRoom (ticket_of tables.now.lines) (expr_at depth (ticket_of tables.now.lines) k) l.old }
-    ensures { MeetsHead l.old (lower_expression (ticket_of tables.now.lines) (expr_at depth (ticket_of tables.now.lines) k) nowhere (counters_in l.old)) l.new result }
+    ensures meets { MeetsHead l.old (lower_expression (ticket_of tables.now.lines) (expr_at depth (ticket_of tables.now.lines) k) nowhere (counters_in l.old)) l.new result }
+    ensures holds { Holds l.old l.new }
 {
     let top = l.top;
     let value = lower_expression(tables, l, k, depth)?;
@@ -133,7 +136,8 @@ fn lower_conversion(
     h: At,
 ) -> Result<Value, Refused<Refusal>>
     requires { NodeRoom (ticket_of tables.now.lines) h.node.0 (convert (at_of h) (ticket.conversion_op op) (expr_at depth (ticket_of tables.now.lines) e)) l.old }
-    ensures { MeetsValue l.old (lower_expression (ticket_of tables.now.lines) (convert (at_of h) (ticket.conversion_op op) (expr_at depth (ticket_of tables.now.lines) e)) nowhere (counters_in l.old)) l.new result }
+    ensures meets { MeetsValue l.old (lower_expression (ticket_of tables.now.lines) (convert (at_of h) (ticket.conversion_op op) (expr_at depth (ticket_of tables.now.lines) e)) nowhere (counters_in l.old)) l.new result }
+    ensures holds { Holds l.old l.new }
 {
     if conversions::is_reinterpret(op) {
         let whole = lower_expression(tables, l, e, depth)?;
@@ -156,7 +160,8 @@ fn lower_select(
     h: At,
 ) -> Result<Value, Refused<Refusal>>
     requires { NodeRoom (ticket_of tables.now.lines) h.node.0 (select (at_of h) (expr_at depth (ticket_of tables.now.lines) t) (expr_at depth (ticket_of tables.now.lines) f) (expr_at depth (ticket_of tables.now.lines) c)) l.old }
-    ensures { MeetsValue l.old (lower_expression (ticket_of tables.now.lines) (select (at_of h) (expr_at depth (ticket_of tables.now.lines) t) (expr_at depth (ticket_of tables.now.lines) f) (expr_at depth (ticket_of tables.now.lines) c)) nowhere (counters_in l.old)) l.new result }
+    ensures meets { MeetsValue l.old (lower_expression (ticket_of tables.now.lines) (select (at_of h) (expr_at depth (ticket_of tables.now.lines) t) (expr_at depth (ticket_of tables.now.lines) f) (expr_at depth (ticket_of tables.now.lines) c)) nowhere (counters_in l.old)) l.new result }
+    ensures holds { Holds l.old l.new }
 {
     let top = l.top;
     let yes = lower_expression(tables, l, t, depth)?;
@@ -180,7 +185,8 @@ fn lower_aggregate(
     h: At,
 ) -> Result<Value, Refused<Refusal>>
     requires { NodeRoom (ticket_of tables.now.lines) h.node.0 (aggregate (at_of h) (kids (ticket_of tables.now.lines) tables.now.lines.lists.now depth start n)) l.old }
-    ensures { MeetsValue l.old (lower_expression (ticket_of tables.now.lines) (aggregate (at_of h) (kids (ticket_of tables.now.lines) tables.now.lines.lists.now depth start n)) nowhere (counters_in l.old)) l.new result }
+    ensures meets { MeetsValue l.old (lower_expression (ticket_of tables.now.lines) (aggregate (at_of h) (kids (ticket_of tables.now.lines) tables.now.lines.lists.now depth start n)) nowhere (counters_in l.old)) l.new result }
+    ensures holds { Holds l.old l.new }
 {
     let from = l.top;
     for i in 0..n {
@@ -208,13 +214,12 @@ fn lower_extract(
     h: At,
 ) -> Result<Value, Refused<Refusal>>
     requires { NodeRoom (ticket_of tables.now.lines) h.node.0 (extract_element (at_of h) (expr_at depth (ticket_of tables.now.lines) e) i) l.old }
-    ensures { MeetsValue l.old (lower_expression (ticket_of tables.now.lines) (extract_element (at_of h) (expr_at depth (ticket_of tables.now.lines) e) i) nowhere (counters_in l.old)) l.new result }
+    ensures meets { MeetsValue l.old (lower_expression (ticket_of tables.now.lines) (extract_element (at_of h) (expr_at depth (ticket_of tables.now.lines) e) i) nowhere (counters_in l.old)) l.new result }
+    ensures holds { Holds l.old l.new }
 {
     let top = l.top;
     let whole = lower_expression(tables, l, e, depth)?;
-    let (part, end) = parts::extract(l.stack, top, l.top, whole, i).ok_or(h.refuse(
-        Refusal::UnsupportedExpression,
-    ))?;
+    let (part, end) = parts::extract(l.stack, top, l.top, whole, i).map_err(|r| h.refuse(r))?;
     l.top = end;
     Ok(part)
 }
@@ -232,14 +237,15 @@ fn lower_insert(
     h: At,
 ) -> Result<Value, Refused<Refusal>>
     requires { NodeRoom (ticket_of tables.now.lines) h.node.0 (insert_element (at_of h) (expr_at depth (ticket_of tables.now.lines) e) i (expr_at depth (ticket_of tables.now.lines) w)) l.old }
-    ensures { MeetsValue l.old (lower_expression (ticket_of tables.now.lines) (insert_element (at_of h) (expr_at depth (ticket_of tables.now.lines) e) i (expr_at depth (ticket_of tables.now.lines) w)) nowhere (counters_in l.old)) l.new result }
+    ensures meets { MeetsValue l.old (lower_expression (ticket_of tables.now.lines) (insert_element (at_of h) (expr_at depth (ticket_of tables.now.lines) e) i (expr_at depth (ticket_of tables.now.lines) w)) nowhere (counters_in l.old)) l.new result }
+    ensures holds { Holds l.old l.new }
 {
     let top = l.top;
     let whole = lower_expression(tables, l, e, depth)?;
     let middle = l.top;
     let part = lower_expression(tables, l, w, depth)?;
-    let (changed, end) = parts::insert(l.stack, top, middle, l.top, whole, i, part, h.ty).ok_or(
-        h.refuse(Refusal::UnsupportedExpression),
+    let (changed, end) = parts::insert(l.stack, top, middle, l.top, whole, i, part, h.ty).map_err(
+        |r| h.refuse(r),
     )?;
     l.top = end;
     Ok(changed)

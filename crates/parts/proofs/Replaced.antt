@@ -1,5 +1,5 @@
 -- The records of an aggregate whose part i is replaced.
-use Rattle.std.specs.Prelude.{◌≡◌, ℕ, ◌+◌, ◌-◌, ◌*◌, ◌/◌, ◌≤◌, length, Some}
+use Rattle.std.specs.Prelude.{◌≡◌, ℕ, ◌+◌, ◌-◌, ◌*◌, ◌/◌, ◌≤◌, length, Ok}
 use Rattle.std.proofs.Math.Path.{sym, ap}
 use Rattle.std.proofs.Common.{◌∙◌, length-append}
 use mathlib.Core.List.{List, ◌∷◌, ◌++◌, map, append_assoc}
@@ -70,7 +70,7 @@ module _ {l : List ℕ} {p q mid end : ℕ} {x : Val} {top : ℕ} (a : Insertabl
       omega arith
 
   replaced : {l' : List ℕ} (ty n : ℕ) → PutWords l p q mid end x l'
-      → CaseInsert l top ty n (heads l top mid) (heads l p mid) (head_of x ∷ heads l mid end) l' (Some (record { ty = ty; repr = Rep.Aggregate n ((p + 8 + (end - q) - top) / 8) }, p + 8 + (end - q)))
+      → CaseInsert l top ty n (heads l top mid) (heads l p mid) (head_of x ∷ heads l mid end) l' (Ok (record { ty = ty; repr = Rep.Aggregate n ((p + 8 + (end - q) - top) / 8) }, p + 8 + (end - q)))
   replaced {l'} ty n w =
       let new = with_part (heads l top mid) (head_of (value_at l p)) (heads l (p + 8) mid) (head_of x ∷ heads l mid end) in
       let len = length_parts in
@@ -90,6 +90,6 @@ module _ {l : List ℕ} {p q mid end : ℕ} {x : Val} {top : ℕ} (a : Insertabl
 -- in an aggregate of n parts part i, which stands at p, replaced by x
 pub put : {l : List ℕ} {top p q mid end i : ℕ} {x : Val} {l' : List ℕ} (v : Val) (ty n m : ℕ) → Insertable l top mid end x → PartAt l top mid i p → Behind l p mid q
     → v.repr ≡ Rep.Aggregate n m → PutWords l p q mid end x l'
-    → Inserts l top mid end v i x ty l' (Some (record { ty = ty; repr = Rep.Aggregate n ((p + 8 + (end - q) - top) / 8) }, p + 8 + (end - q)))
+    → Inserts l top mid end v i x ty l' (Ok (record { ty = ty; repr = Rep.Aggregate n ((p + 8 + (end - q) - top) / 8) }, p + 8 + (end - q)))
 put {l} {top} {p} {q} {mid} {end} {i} {x} {l'} v ty n m a k b g w =
     record { shown = rw g (rw (← k.found) (replaced a k.stands b k.later ty n w)) }

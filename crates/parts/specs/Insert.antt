@@ -1,7 +1,9 @@
 -- Insert over records: those before part i, the new head and its records, and those behind part i.
-use Rattle.std.specs.Prelude.{◌≡◌, ℕ, ◌+◌, ◌-◌, ◌≤◌, length, drop, Option, None, Some}
+use Rattle.std.specs.Prelude.{◌≡◌, ℕ, ◌+◌, ◌-◌, ◌≤◌, length, drop, Result, Ok, Err}
 use mathlib.Core.List.{List, ◌∷◌, ◌++◌, []}
 use Rattle.std.proofs.Math.ListN.{take}
+use Rattle.answers.specs.declared.Refusal.{Refusal}
+use Rattle.answers.specs.Refusals.{refusal_number}
 use Rattle.values.specs.declared.Value.{Value as Val}
 use Rattle.values.specs.Heads.{Shape, unit_shape, bit_shape, bytes_shape, aggregate_shape, Head, head_of, Sound_value, records}
 use Rattle.values.specs.Left.{value_words}
@@ -22,14 +24,14 @@ with_part hs h ks xs = take (length hs - length (h ∷ ks)) hs ++ (xs ++ drop (r
 abbrev pub aggregate_head : ℕ → ℕ → List Head → Head
 aggregate_head ty n hs = record { ty = ty; shape = aggregate_shape n (length hs) }
 
-abbrev pub CaseInsert : List ℕ → ℕ → ℕ → ℕ → List Head → List Head → List Head → List ℕ → Option (Val × ℕ) → Type 0
-CaseInsert l top ty n hs [] xs l' None = Unit {0}
-CaseInsert l top ty n hs [] xs l' (Some y) = ⊥
-CaseInsert l top ty n hs (h ∷ ks) xs l' None = ⊥
-CaseInsert l top ty n hs (h ∷ ks) xs l' (Some y) = (head_of y.0 ≡ aggregate_head ty n (with_part hs h ks xs)) × Sound_value y.0 × Moved l top (with_part hs h ks xs) l' y.1
+abbrev pub CaseInsert : List ℕ → ℕ → ℕ → ℕ → List Head → List Head → List Head → List ℕ → Result (Val × ℕ) Refusal → Type 0
+CaseInsert l top ty n hs [] xs l' (Err k) = refusal_number k ≡ 24
+CaseInsert l top ty n hs [] xs l' (Ok y) = ⊥
+CaseInsert l top ty n hs (h ∷ ks) xs l' (Err k) = ⊥
+CaseInsert l top ty n hs (h ∷ ks) xs l' (Ok y) = (head_of y.0 ≡ aggregate_head ty n (with_part hs h ks xs)) × Sound_value y.0 × Moved l top (with_part hs h ks xs) l' y.1
 
 -- the aggregate's records stand from the top to mid, those of the new value from mid to end
-pub record Inserts (l : List ℕ) (top mid end : ℕ) (v : Val) (i : ℕ) (x : Val) (ty : ℕ) (l' : List ℕ) (r : Option (Val × ℕ)) : Type 0 where
+pub record Inserts (l : List ℕ) (top mid end : ℕ) (v : Val) (i : ℕ) (x : Val) (ty : ℕ) (l' : List ℕ) (r : Result (Val × ℕ) Refusal) : Type 0 where
   pub shown : CaseInsert l top ty (part_count (head_of v).shape) (heads l top mid) (found_in (head_of v).shape (heads l top mid) i) (head_of x ∷ heads l mid end) l' r
 
 -- what `insert` asks for

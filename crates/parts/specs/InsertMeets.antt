@@ -3,9 +3,10 @@ use Rattle.std.specs.Prelude.{◌≡◌, length, take, drop}
 use Rattle.std.proofs.Math.Path.{refl}
 use Rattle.std.proofs.Common.{sym, ap, subst, ◌∙◌, arith, length-append, drop_at}
 use mathlib.Core.List.{List, ◌∷◌, ◌++◌, map, append_assoc, []}
-use Rattle.std.specs.Prelude.{Option, None, Some}
+use Rattle.std.specs.Prelude.{Option, None, Some, Result, Ok, Err}
 use Prim.Native.Nat.{ℕ, zero, suc, ◌+◌, ◌-◌, ◌≤◌}
 use Rattle.std.proofs.Math.Seq.{take-append-add}
+use Rattle.answers.specs.declared.Refusal.{Refusal}
 use Rattle.spec.specs.Hir.{At}
 use Rattle.spec.specs.Lir.{Value, value, unit, bit_value, bytes_value, aggregate, Values, no_values, ◌∷ᵛ◌}
 use Rattle.spec.specs.Ticket.{Tables}
@@ -100,25 +101,25 @@ module _ {l : Lowering} {o : Outcome Value} {l1 : Lowering} {x : Val} {p : Outco
     abbrev appended : Out
     appended = ◌⊕◌ d.out e.out
 
-    stop : (hs xs : List Head) (k : ℕ) (r : Option (Val × ℕ)) → CaseInsert l2.stack.now l.top ty k hs [] xs ws r → CasePart env.line l (refused 24 env.line) (with_stack l2 ws) r
-    stop hs xs k None m = refl
-    stop hs xs k (Some z) m = absurd m
+    stop : (hs xs : List Head) (k : ℕ) (r : Result (Val × ℕ) Refusal) → CaseInsert l2.stack.now l.top ty k hs [] xs ws r → CasePart env.line l (refused 24 env.line) (with_stack l2 ws) r
+    stop hs xs k (Err j) m = rw m
+    stop hs xs k (Ok z) m = absurd m
 
-    finish : (us : Values) (hs : List Head) (g : Head) (ks xs : List Head) (k : ℕ) → preorders us ≡ with_part hs g ks xs → count us ≡ k → (r : Option (Val × ℕ))
+    finish : (us : Values) (hs : List Head) (g : Head) (ks xs : List Head) (k : ℕ) → preorders us ≡ with_part hs g ks xs → count us ≡ k → (r : Result (Val × ℕ) Refusal)
         → CaseInsert l2.stack.now l.top ty k hs (g ∷ ks) xs ws r → CasePart env.line l (prepend appended (done (value ty (aggregate us)) (counters_in l2) nothing)) (with_stack l2 ws) r
-    finish us hs g ks xs k q u None m = absurd m
-    finish us hs g ks xs k q u (Some z) m = (
+    finish us hs g ks xs k q u (Err j) m = absurd m
+    finish us hs g ks xs k q u (Ok z) m = (
       record { head = m.0 ∙ ap (λ (a : List Head). aggregate_head ty k a) (sym q) ∙ ap (λ (a : ℕ). aggregate_head ty a (preorders us)) (sym u); sound = m.1 },
       moved_left (left_then d.left e.left) h (subst (λ (a : List Head). Moved l2.stack.now l.top a ws z.1) (sym q) m.2) n,
     )
 
-    choose : (hs found xs : List Head) (k : ℕ) (ov : Option Values) → SetIs hs found xs k ov → (r : Option (Val × ℕ)) → CaseInsert l2.stack.now l.top ty k hs found xs ws r
+    choose : (hs found xs : List Head) (k : ℕ) (ov : Option Values) → SetIs hs found xs k ov → (r : Result (Val × ℕ) Refusal) → CaseInsert l2.stack.now l.top ty k hs found xs ws r
         → CasePart env.line l (prepend appended (prepend nothing (bind_to (λ us. pure (value ty (aggregate us))) env (or_refuse 24 ov env (counters_in l2))))) (with_stack l2 ws) r
     unfolding or_refuse
     choose hs found xs k None s r m = stop hs xs k r (subst (λ (z : List Head). CaseInsert l2.stack.now l.top ty k hs z xs ws r) s m)
     choose hs found xs k (Some us) s r m = finish us hs s.0 s.1 xs k s.3 s.4 r (subst (λ (z : List Head). CaseInsert l2.stack.now l.top ty k hs z xs ws r) s.2 m)
 
-    by_value : (T : Tables) (v : Value) (r : Option (Val × ℕ)) → CaseInsert l2.stack.now l.top ty (part_count (root v).shape) (parts_of v) (found_in (root v).shape (parts_of v) i) (root e.v ∷ parts_of e.v) ws r
+    by_value : (T : Tables) (v : Value) (r : Result (Val × ℕ) Refusal) → CaseInsert l2.stack.now l.top ty (part_count (root v).shape) (parts_of v) (found_in (root v).shape (parts_of v) i) (root e.v ∷ parts_of e.v) ws r
         → CasePart env.line l (prepend appended (lower_insert T v i e.v ty env (counters_in l2))) (with_stack l2 ws) r
     unfolding lower_insert or_refuse ◌>>=◌
     by_value T (value t unit) r m = stop [] (root e.v ∷ parts_of e.v) 0 r m
@@ -126,7 +127,7 @@ module _ {l : Lowering} {o : Outcome Value} {l1 : Lowering} {x : Val} {p : Outco
     by_value T (value t (bytes_value z)) r m = stop [] (root e.v ∷ parts_of e.v) 0 r m
     by_value T (value t (aggregate vs)) r m = choose (preorders vs) (skip i (preorders vs)) (root e.v ∷ parts_of e.v) (count vs) (set_value vs i e.v) (set_found e.v i vs) r m
 
-    pub insert_meets : (T : Tables) {r : Option (Val × ℕ)} → Inserts l2.stack.now l.top l1.top l2.top x i y ty ws r
+    pub insert_meets : (T : Tables) {r : Result (Val × ℕ) Refusal} → Inserts l2.stack.now l.top l1.top l2.top x i y ty ws r
         → MeetsPart env.line l (prepend d.out (prepend e.out (lower_insert T d.v i e.v ty env (counters_in l2)))) (with_stack l2 ws) r
     insert_meets T {r} m =
         let hx : heads l2.stack.now l1.top l2.top ≡ parts_of e.v = left_heads e.left (left_fits d.left h) in

@@ -1,8 +1,9 @@
 -- From the records to the trees: select and extract over values that were lowered one after the other.
-use Rattle.std.specs.Prelude.{◌≡◌, refl, List, ◌∷◌, ◌++◌, map, [], ℕ, ◌+◌, ◌≤◌, length, take, Option, None, Some, Result, Ok}
+use Rattle.std.specs.Prelude.{◌≡◌, refl, List, ◌∷◌, ◌++◌, map, [], ℕ, ◌+◌, ◌≤◌, length, take, Option, None, Some, Result, Ok, Err}
 use Rattle.std.proofs.Common.{sym, ap, subst, ◌∙◌, append-nil, arith, length-append, length-take, take_at, length-take-le}
 use Rattle.answers.specs.declared.Refusal.{Refusal}
 use Rattle.answers.specs.declared.Refused.{Refused}
+use Rattle.answers.specs.Refusals.{refusal_number}
 use Rattle.spec.specs.Hir.{At}
 use Rattle.spec.specs.Lir.{ValueOperand, BitOperand, Value, value, unit, bit_value, bytes_value, aggregate}
 use Rattle.spec.specs.Ticket.{Tables}
@@ -99,7 +100,7 @@ module _ {l : Lowering} {o : Outcome Value} {l1 : Lowering} {x : Val} {p : Outco
       let s4 = ap (λ (a : List ValueOperand). selects T W (value_type d.v) (operands_of (root d.v ∷ parts_of d.v)) (value_type e.v) a ty env N) oy in
       three_meets (subst (λ (a : Outcome Value). MeetsValue (at_top l3 l.top) a l4 r) (s1 ∙ s2 ∙ s3 ∙ s4 ∙ sym (select_flat T W d.v e.v ty env N)) z)
 
--- ---------------------------------------------------------------- a part, or none
+-- ---------------------------------------------------------------- a part, or a refusal
 
 -- other records in place of those that a step left
 pub moved_left : {l : Lowering} {hs : List Head} {cs : monad.Counters} {o : Out} {l1 : Lowering} {ks : List Head} {ws : List ℕ} {t : ℕ}
@@ -120,29 +121,29 @@ moved_left {l} {hs} {cs} {o} {l1} {ks} {ws} {t} a h m e =
       words = a.words;
     })
 
-abbrev pub CasePart : ℕ → Lowering → Outcome Value → Lowering → Option (Val × ℕ) → Type 0
-CasePart line l o l1 None = o ≡ refused 24 line
-CasePart line l o l1 (Some y) = Case IsValue parts_of l o (at_top l1 y.1) (Ok y.0)
+abbrev pub CasePart : ℕ → Lowering → Outcome Value → Lowering → Result (Val × ℕ) Refusal → Type 0
+CasePart line l o l1 (Err k) = o ≡ refused (refusal_number k) line
+CasePart line l o l1 (Ok y) = Case IsValue parts_of l o (at_top l1 y.1) (Ok y.0)
 
--- a value and its top are the definition's, or there is none and the definition refuses
-pub record MeetsPart (line : ℕ) (l : Lowering) (o : Outcome Value) (l1 : Lowering) (r : Option (Val × ℕ)) : Type 0 where
+-- a value and its top are the definition's, or the refusal is, at the line
+pub record MeetsPart (line : ℕ) (l : Lowering) (o : Outcome Value) (l1 : Lowering) (r : Result (Val × ℕ) Refusal) : Type 0 where
   pub shown : CasePart line l o l1 r
 
-module _ {line : ℕ} {l : Lowering} {o : Outcome Value} {l1 : Lowering} {r : Option (Val × ℕ)} (m : MeetsPart line l o l1 r) where
-  pub part_done : {y : Val × ℕ} → r ≡ Some y → MeetsValue l o (at_top l1 y.1) (Ok y.0)
-  part_done e = record { shown = subst (λ (z : Option (Val × ℕ)). CasePart line l o l1 z) e m.shown }
+module _ {line : ℕ} {l : Lowering} {o : Outcome Value} {l1 : Lowering} {r : Result (Val × ℕ) Refusal} (m : MeetsPart line l o l1 r) where
+  pub part_done : {y : Val × ℕ} → r ≡ Ok y → MeetsValue l o (at_top l1 y.1) (Ok y.0)
+  part_done e = record { shown = subst (λ (z : Result (Val × ℕ) Refusal). CasePart line l o l1 z) e m.shown }
 
-  pub part_refused : r ≡ None → o ≡ refused 24 line
-  part_refused e = subst (λ (z : Option (Val × ℕ)). CasePart line l o l1 z) e m.shown
+  pub part_refused : {k : Refusal} → r ≡ Err k → o ≡ refused (refusal_number k) line
+  part_refused e = subst (λ (z : Result (Val × ℕ) Refusal). CasePart line l o l1 z) e m.shown
 
 -- ---------------------------------------------------------------- extract
 
 module _ {l : Lowering} {o : Outcome Value} {l1 : Lowering} {x : Val} (d : DoneValue l o l1 x) (h : l.top ≤ length l.stack.now) (i : ℕ) (env : At) (ws : List ℕ) (e : length ws ≡ length l1.stack.now) where
-  stop : (r : Option (Val × ℕ)) → CaseExtract l1.stack.now l.top [] ws r → CasePart env.line l (refused 24 env.line) (with_stack l1 ws) r
-  stop None m = refl
-  stop (Some y) m = absurd m
+  stop : (r : Result (Val × ℕ) Refusal) → CaseExtract l1.stack.now l.top [] ws r → CasePart env.line l (refused 24 env.line) (with_stack l1 ws) r
+  stop (Err k) m = rw m
+  stop (Ok y) m = absurd m
 
-  pick : (hs : List Head) (ov : Option Value) → Found hs ov → (r : Option (Val × ℕ)) → CaseExtract l1.stack.now l.top hs ws r → CasePart env.line l (prepend d.out (or_refuse 24 ov env (counters_in l1))) (with_stack l1 ws) r
+  pick : (hs : List Head) (ov : Option Value) → Found hs ov → (r : Result (Val × ℕ) Refusal) → CaseExtract l1.stack.now l.top hs ws r → CasePart env.line l (prepend d.out (or_refuse 24 ov env (counters_in l1))) (with_stack l1 ws) r
   unfolding or_refuse
   pick hs None g r m = stop r (subst (λ (z : List Head). CaseExtract l1.stack.now l.top z ws r) g m)
   pick hs (Some w) found r m = go r (subst (λ (z : List Head). CaseExtract l1.stack.now l.top z ws r) found.1 m)
@@ -153,11 +154,11 @@ module _ {l : Lowering} {o : Outcome Value} {l1 : Lowering} {x : Val} (d : DoneV
       tk : take (records (root w)) (parts_of w ++ ks) ≡ parts_of w
       tk = take_at (parts_of w) ks (records (root w)) (sym (records_parts w))
 
-      go : (r : Option (Val × ℕ)) → CaseExtract l1.stack.now l.top (root w ∷ (parts_of w ++ ks)) ws r → CasePart env.line l (prepend d.out (done w (counters_in l1) nothing)) (with_stack l1 ws) r
-      go None m = absurd m
-      go (Some y) m = (record { head = m.0; sound = m.1 }, moved_left d.left h (subst (λ (z : List Head). Moved l1.stack.now l.top z ws y.1) tk m.2) e)
+      go : (r : Result (Val × ℕ) Refusal) → CaseExtract l1.stack.now l.top (root w ∷ (parts_of w ++ ks)) ws r → CasePart env.line l (prepend d.out (done w (counters_in l1) nothing)) (with_stack l1 ws) r
+      go (Err k) m = absurd m
+      go (Ok y) m = (record { head = m.0; sound = m.1 }, moved_left d.left h (subst (λ (z : List Head). Moved l1.stack.now l.top z ws y.1) tk m.2) e)
 
-  by_value : (T : Tables) (v : Value) → (r : Option (Val × ℕ)) → CaseExtract l1.stack.now l.top (found_in (root v).shape (parts_of v) i) ws r → CasePart env.line l (prepend d.out (lower_extract T v i env (counters_in l1))) (with_stack l1 ws) r
+  by_value : (T : Tables) (v : Value) → (r : Result (Val × ℕ) Refusal) → CaseExtract l1.stack.now l.top (found_in (root v).shape (parts_of v) i) ws r → CasePart env.line l (prepend d.out (lower_extract T v i env (counters_in l1))) (with_stack l1 ws) r
   unfolding lower_extract or_refuse ◌>>=◌
   by_value T (value ty unit) r m = stop r m
   by_value T (value ty (bit_value x)) r m = stop r m
@@ -168,7 +169,7 @@ module _ {l : Lowering} {o : Outcome Value} {l1 : Lowering} {x : Val} (d : DoneV
       finish None k = k
       finish (Some w) k = k
 
-  pub extract_meets : (T : Tables) {r : Option (Val × ℕ)} → Extracts l1.stack.now l.top l1.top x i ws r → MeetsPart env.line l (prepend d.out (lower_extract T d.v i env (counters_in l1))) (with_stack l1 ws) r
+  pub extract_meets : (T : Tables) {r : Result (Val × ℕ) Refusal} → Extracts l1.stack.now l.top l1.top x i ws r → MeetsPart env.line l (prepend d.out (lower_extract T d.v i env (counters_in l1))) (with_stack l1 ws) r
   extract_meets T {r} m =
       let hp : heads l1.stack.now l.top l1.top ≡ parts_of d.v = left_heads d.left h in
       let g : found_in (head_of x).shape (heads l1.stack.now l.top l1.top) i ≡ found_in (root d.v).shape (parts_of d.v) i =

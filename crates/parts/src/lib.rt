@@ -1,7 +1,8 @@
 // Values whose parts stand on the lent stack: a part taken out, or another put in its place, and the operands one by one.
 #![tactic(auto)]
 
-ghost use Rattle.std.specs.Prelude.{◌≡◌, ◌∷◌, [], ◌+◌, ◌-◌, ◌^◌, ◌≤◌, ◌<◌, length, MatchOption, IfSome, slice_get, option_map};
+ghost use Rattle.std.specs.Prelude.{◌≡◌, ◌∷◌, ◌++◌, [], ◌+◌, ◌-◌, ◌^◌, ◌≤◌, ◌<◌, length, take, drop, MatchOption, IfSome, slice_get, option_map};
+ghost use Rattle.std.specs.List.{copy_within};
 ghost use Rattle.values.specs.Heads.{head_of, records, skip, operands_of, Sound_value};
 ghost use Rattle.values.specs.Stack.{heads, Stands, Extracts};
 ghost use Rattle.parts.specs.Records.{AreRecords, heads_in};
@@ -9,6 +10,7 @@ ghost use Rattle.parts.specs.Extract.{Behind, PartAt};
 ghost use Rattle.parts.specs.Insert.{Inserts, Insertable, PutWords};
 ghost use Rattle.parts.specs.Operands.{operand_of, own};
 
+use answers::Refusal;
 use lir::{BitOperand, ByteOperand};
 use std::marker::Model;
 use values::{Repr, Value};
@@ -53,26 +55,50 @@ fn part_at(stack: &[u64], top: usize, end: usize, i: u64) -> Option<usize>
     (at < end).then_some(at)
 }
 
+// Words moved by loops of our own, here and below: the library's moves would be C's memcpy and memmove, which the archive for C then needs
+// from outside.
+
+// The words from a to e moved down to b, the lowest first.
+fn move_down(s: &mut [u64], a: usize, e: usize, b: usize)
+    requires { (b ≤ a) × (a ≤ e) × (e ≤ length s.old) }
+    ensures { s.new ≡ copy_within s.old a e b }
+{
+    for j in 0..e - a {
+        s[b + j] = s[a + j];
+    }
+}
+
 /// Part i of the aggregate v, whose parts stand from `top` to `end`: its own parts move down to `top`, and what they end at is the new top.
-/// `None` where there is no such part.
+/// Refused where there is no such part.
 pub fn extract(
     stack: &mut [u64],
     top: usize,
     end: usize,
     v: Value,
     i: u64,
-) -> Option<(Value, usize)>
+) -> Result<(Value, usize), Refusal>
     requires { (top ≤ end) × (end ≤ length stack.old) × Stands stack.old top end }
     ensures { Extracts stack.old top end v i stack.new result }
 {
     let Repr::Aggregate(_, _) = v.repr else {
-        return None;
+        return Err(Refusal::UnsupportedExpression);
     };
-    let at = part_at(stack, top, end, i)?;
+    let at = part_at(stack, top, end, i).ok_or(Refusal::UnsupportedExpression)?;
     let part = values::value_at(stack, at);
     let to = behind(stack, at, end);
-    stack.copy_within(at + 8..to, top);
-    Some((part, top + (to - (at + 8))))
+    move_down(stack, at + 8, to, top);
+    Ok((part, top + (to - (at + 8))))
+}
+
+// The words before m and those from m on change places, with no room of their own: all turned round, and then each again.
+fn turn(s: &mut [u64], m: usize)
+    requires { m ≤ length s.old }
+    ensures { s.new ≡ drop m s.old ++ take m s.old }
+{
+    let k = s.len() - m;
+    s.reverse();
+    s[..k].reverse();
+    s[k..].reverse();
 }
 
 // The value from p to q replaced by x, whose parts stand from `mid` to `end`: they go before the words behind q, and all of these move
@@ -81,13 +107,13 @@ fn put_part(stack: &mut [u64], p: usize, q: usize, mid: usize, end: usize, x: Va
     requires { (p + 8 ≤ q) × (q ≤ mid) × (mid ≤ end) × (end ≤ length stack.old) }
     ensures { PutWords stack.old p q mid end x stack.new }
 {
-    stack[q..end].rotate_left(mid - q);
-    stack.copy_within(q..end, p + 8);
+    turn(&mut stack[q..end], mid - q);
+    move_down(stack, q, end, p + 8);
     values::store8(stack, p, values::value_words(x));
 }
 
 /// The aggregate v with x for its part i, as a value of type `ty`, and the new top. The parts of v stand from `top` to `mid`, those of x
-/// from there to `end`. `None` where there is no such part.
+/// from there to `end`. Refused where there is no such part.
 pub fn insert(
     stack: &mut [u64],
     top: usize,
@@ -97,14 +123,14 @@ pub fn insert(
     i: u64,
     x: Value,
     ty: u64,
-) -> Option<(Value, usize)>
+) -> Result<(Value, usize), Refusal>
     requires { Insertable stack.old top mid end x }
     ensures { Inserts stack.old top mid end v i x ty stack.new result }
 {
     let Repr::Aggregate(n, _) = v.repr else {
-        return None;
+        return Err(Refusal::UnsupportedExpression);
     };
-    let p = part_at(stack, top, mid, i)?;
+    let p = part_at(stack, top, mid, i).ok_or(Refusal::UnsupportedExpression)?;
     let q = behind(stack, p, mid);
     put_part(stack, p, q, mid, end, x);
     let to = p + 8 + (end - q);
@@ -113,7 +139,7 @@ pub fn insert(
         ty,
         repr: Repr::Aggregate(n, m as u64),
     };
-    Some((whole, to))
+    Ok((whole, to))
 }
 
 // ---------------------------------------------------------------- operands

@@ -11,7 +11,7 @@ ghost use Rattle.emission.specs.Temporaries.{location};
 ghost use Rattle.tables.specs.Ticket.{ticket_of};
 ghost use Rattle.places.specs.Abstract.{location_from};
 ghost use Rattle.values.specs.declared.Lowering.{Lowering as Lowers};
-ghost use Rattle.values.specs.Left.{counters_in, MeetsValue, MeetsList};
+ghost use Rattle.values.specs.Left.{counters_in, Holds, SameMarks, MeetsValue, MeetsList};
 ghost use Rattle.reads.specs.Reading.{at_of, part_type, part_types, size_of, TypeRoom, PartsRoom};
 
 use answers::{Refusal, Refused};
@@ -49,7 +49,7 @@ impl At {
 
 // The types of an aggregate's parts: an array's, all one; or a struct's and a tuple's, from a place in the lists on.
 #[derive(Clone, Copy)]
-enum Parts {
+pub enum Parts {
     Elements(u64),
     Fields(u64),
 }
@@ -69,7 +69,9 @@ impl Parts {
 // A byte that is a Bool, as a new bit.
 fn read_bool(l: &mut Lowering<'_>, storage: StorageId, ty: u64, o: u64) -> Value
     requires { Room 2 l.old.out }
-    ensures { (T : Ticket) (h : hir.At) → h.node ≡ l.old.out.node.0 → MeetsValue l.old (read_bool_byte T storage.0 ty o h (counters_in l.old)) l.new (Ok result) }
+    ensures meets { (T : Ticket) (h : hir.At) → h.node ≡ l.old.out.node.0 → MeetsValue l.old (read_bool_byte T storage.0 ty o h (counters_in l.old)) l.new (Ok result) }
+    ensures holds { Holds l.old l.new }
+    ensures marks { SameMarks l.old l.new }
 {
     let id = l.out.allocate_bit_temporary(Purpose::ReadBool);
     let from = ByteStorage { storage, offset: o };
@@ -110,7 +112,9 @@ pub fn read_bytes_as_type(
     h: At,
 ) -> Result<Value, Refused<Refusal>>
     requires { TypeRoom (ticket_of tables.now.lines) h.node.0 ty o l.old }
-    ensures { MeetsValue l.old (read_bytes_as_type (ticket_of tables.now.lines) depth storage.0 ty o (at_of h) (counters_in l.old)) l.new result }
+    ensures meets { MeetsValue l.old (read_bytes_as_type (ticket_of tables.now.lines) depth storage.0 ty o (at_of h) (counters_in l.old)) l.new result }
+    ensures holds { Holds l.old l.new }
+    ensures marks { SameMarks l.old l.new }
 {
     if depth == 0 {
         return Err(h.refuse(Refusal::UnsupportedType));
@@ -152,7 +156,9 @@ fn read_parts(
     h: At,
 ) -> Result<(), Refused<Refusal>>
     requires { PartsRoom (ticket_of tables.now.lines) h.node.0 (part_types tables.now.lines.lists.now parts 0 n) o l.old }
-    ensures { MeetsList n l.old (read_fields (ticket_of tables.now.lines) (λ t p. read_bytes_as_type (ticket_of tables.now.lines) depth storage.0 t p) o (part_types tables.now.lines.lists.now parts 0 n) (at_of h) (counters_in l.old)) l.new result }
+    ensures meets { MeetsList n l.old (read_fields (ticket_of tables.now.lines) (λ t p. read_bytes_as_type (ticket_of tables.now.lines) depth storage.0 t p) o (part_types tables.now.lines.lists.now parts 0 n) (at_of h) (counters_in l.old)) l.new result }
+    ensures holds { Holds l.old l.new }
+    ensures marks { SameMarks l.old l.new }
 {
     let mut at = o;
     for i in 0..n {
@@ -174,7 +180,9 @@ pub fn read_location(
     h: At,
 ) -> Result<Value, Refused<Refusal>>
     requires { TypeRoom (ticket_of tables.now.lines) h.node.0 location.ty location.offset l.old }
-    ensures { MeetsValue l.old (read_location (ticket_of tables.now.lines) (location_from location) (at_of h) (counters_in l.old)) l.new result }
+    ensures meets { MeetsValue l.old (read_location (ticket_of tables.now.lines) (location_from location) (at_of h) (counters_in l.old)) l.new result }
+    ensures holds { Holds l.old l.new }
+    ensures marks { SameMarks l.old l.new }
 {
     if location.bit {
         return Ok(Value {
@@ -202,7 +210,9 @@ pub fn read_temporary(
     h: At,
 ) -> Result<Value, Refused<Refusal>>
     requires { TypeRoom (ticket_of tables.now.lines) h.node.0 ty 0 l.old }
-    ensures { MeetsValue l.old (read_location (ticket_of tables.now.lines) (location storage.0 ty) (at_of h) (counters_in l.old)) l.new result }
+    ensures meets { MeetsValue l.old (read_location (ticket_of tables.now.lines) (location storage.0 ty) (at_of h) (counters_in l.old)) l.new result }
+    ensures holds { Holds l.old l.new }
+    ensures marks { SameMarks l.old l.new }
 {
     let location = Location {
         storage,

@@ -14,16 +14,17 @@ use Rattle.spec.specs.ReadBytes.{read_location}
 use Rattle.spec.specs.Select.{select_pieces}
 use Rattle.tables.specs.declared.lookups.Tables as code
 use Rattle.tables.specs.Tables.{size_at}
+use Rattle.tables.specs.Ticket.{ticket_of}
 use Rattle.tables.proofs.Laws.{size_here}
 use Rattle.lir.specs.declared.StorageId.{StorageId}
 use Rattle.lir.specs.declared.NodeId.{NodeId}
 use Rattle.lir.specs.Abstract.{tab}
 use Rattle.emission.specs.declared.emitter.Emitter.{Emitter}
-use Rattle.emission.specs.Appends.{counters_of, Room, room_less}
+use Rattle.emission.specs.Appends.{counters_of, Room, Keeps, room_less}
 use Rattle.emission.specs.Emits.{Allocates, room_allocated}
 use Rattle.emission.specs.Does.{Does, Meets, meets_done, meets_refused, does_allocate, room_done}
 use Rattle.emission.specs.Forms.{prepend_nothing}
-use Rattle.emission.specs.Temporaries.{location, MeetsTemporary, temporary_placed, temporary_refused}
+use Rattle.emission.specs.Temporaries.{location, MeetsTemporary, temporary_placed, temporary_refused, temporary_keeps}
 use Rattle.values.specs.declared.Lowering.{Lowering}
 use Rattle.values.specs.declared.Value.{Value as Val}
 use Rattle.values.specs.Left.{counters_in, with_out, MeetsValue}
@@ -49,6 +50,11 @@ targets_here T s ty n e = go (eqb ty 0)
 pub size_few : (t : code.Tables) (ty : ℕ) {n : ℕ} → n ≡ size_at t.lines.rows.now t.lines.counts ty → n ≤ 1024
 unfolding type_size
 size_few t ty e = omega (arith, t.readable.types.size_most ty, size_here t.lines.rows.now t.lines.lists.now t.lines.counts ty)
+
+-- placed or refused, the temporary is appended to the same buffers
+pub allocated_keeps : (t : code.Tables) (ty : ℕ) {n : ℕ} {e e1 : Emitter} {r : Result StorageId Refusal} → n ≡ size_at t.lines.rows.now t.lines.counts ty
+    → ((T : Tables) → type_size T ty ≡ n → MeetsTemporary e (allocate_temporary T ty) ty e1 r) → Keeps e e1
+allocated_keeps t ty k m = temporary_keeps (m (ticket_of t.lines) (size_here t.lines.rows.now t.lines.lists.now t.lines.counts ty ∙ sym k))
 
 module _ (T : Tables) (q : BitOperand) (a b ty : ℕ) (ts fs : List ValueOperand) (h : At) (l : Lowering) {e1 : Emitter} {r : Result StorageId Refusal} (x : MeetsTemporary l.out (allocate_temporary T ty) ty e1 r) where
   pub not_placed : {k : Refusal} → r ≡ Err k → selects T q a ts b fs ty h (counters_in l) ≡ refused (refusal_number k) h.line

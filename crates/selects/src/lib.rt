@@ -9,7 +9,7 @@ ghost use Rattle.emission.specs.Appends.{Room};
 ghost use Rattle.emission.specs.Emits.{Emits};
 ghost use Rattle.emission.specs.Does.{Does, Meets};
 ghost use Rattle.values.specs.Heads.{head_of, operands_of, Sound_value};
-ghost use Rattle.values.specs.Left.{counters_in, MeetsValue};
+ghost use Rattle.values.specs.Left.{counters_in, Holds, SameMarks, MeetsValue};
 ghost use Rattle.values.specs.Stack.{Stands, heads, selects};
 ghost use Rattle.parts.specs.Operands.{operand_of};
 ghost use Rattle.parts.specs.Records.{AreRecords, heads_in};
@@ -194,7 +194,9 @@ pub fn lower_select(
     h: At,
 ) -> Result<Value, Refused<Refusal>>
     requires { (StepRoom (ticket_of tables.now.lines) h.node.0 h.ty l.old) × (Sound_value t) × (Sound_value f) × (Stands l.old.stack.now l.old.top middle) × (Stands l.old.stack.now middle end) × (l.old.top ≤ middle) × (middle ≤ end) × (end ≤ length l.old.stack.now) }
-    ensures { MeetsValue l.old (selects (ticket_of tables.now.lines) (bit_operand_of c) t.ty (operands_of (head_of t ∷ heads l.old.stack.now l.old.top middle)) f.ty (operands_of (head_of f ∷ heads l.old.stack.now middle end)) h.ty (at_of h) (counters_in l.old)) l.new result }
+    ensures meets { MeetsValue l.old (selects (ticket_of tables.now.lines) (bit_operand_of c) t.ty (operands_of (head_of t ∷ heads l.old.stack.now l.old.top middle)) f.ty (operands_of (head_of f ∷ heads l.old.stack.now middle end)) h.ty (at_of h) (counters_in l.old)) l.new result }
+    ensures holds { Holds l.old l.new }
+    ensures marks { SameMarks l.old l.new }
 {
     let size = tables.lines.type_size(h.ty);
     let to = l

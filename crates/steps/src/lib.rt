@@ -18,12 +18,12 @@ ghost use Rattle.spec.specs.Select.{materialize_location_address, lower_static_a
 ghost use Rattle.lir.specs.Abstract.{bytes_of, bit_operand_of, compare_op_of, purpose_of, Small};
 ghost use Rattle.tables.specs.Tables.{owner_at};
 ghost use Rattle.tables.specs.Ticket.{ticket_of};
-ghost use Rattle.emission.specs.Appends.{Room};
+ghost use Rattle.emission.specs.Appends.{Room, Keeps};
 ghost use Rattle.emission.specs.Forms.{HasWidth};
 ghost use Rattle.emission.specs.Temporaries.{location};
 ghost use Rattle.values.specs.declared.Lowering.{Lowering as State};
 ghost use Rattle.values.specs.Heads.{head_of, flat_of, Sound_value};
-ghost use Rattle.values.specs.Left.{counters_in, marked, MeetsValue, MeetsBit};
+ghost use Rattle.values.specs.Left.{counters_in, marked, Holds, SameMarks, SameStack, MeetsValue, MeetsBit};
 ghost use Rattle.reads.specs.Reading.{at_of, TypeRoom};
 ghost use Rattle.steps.specs.Steps.{constant_of, bool_in, pointer_in, narrowed_by, MeetsStorage};
 ghost use Rattle.steps.specs.Temporaries.{masked, RoomFor, MeetsNew};
@@ -133,7 +133,8 @@ pub fn byte_temporary(
     h: At,
 ) -> Result<Destinations, Refused<Refusal>>
     requires { Room 1 out.old }
-    ensures { MeetsNew (ticket_of tables.now.lines) (at_of h) out.old out.new result }
+    ensures meets { MeetsNew (ticket_of tables.now.lines) (at_of h) out.old out.new result }
+    ensures keeps { Keeps out.old out.new }
 {
     if h.ty == 0 {
         return Err(h.refuse(Refusal::UnsupportedExpression));
@@ -153,7 +154,9 @@ pub fn masked(
     h: At,
 ) -> Result<Value, Refused<Refusal>>
     requires { (d.count ≡ type_size (ticket_of tables.now.lines) h.ty) × (RoomFor 1026 (ticket_of tables.now.lines) (at_of h) l.old) }
-    ensures { MeetsValue l.old (masked (ticket_of tables.now.lines) (location d.storage.0 h.ty) (at_of h) (counters_in l.old)) l.new result }
+    ensures meets { MeetsValue l.old (masked (ticket_of tables.now.lines) (location d.storage.0 h.ty) (at_of h) (counters_in l.old)) l.new result }
+    ensures holds { Holds l.old l.new }
+    ensures marks { SameMarks l.old l.new }
 {
     let odd = odd_bits(tables, h.ty);
     l.out.mask_location(d, odd);
@@ -181,7 +184,10 @@ fn not_zero(
     h: At,
 ) -> Result<StorageId, Refused<Refusal>>
     requires { (Sound_value v) × (Room 2 l.old.out) }
-    ensures { h.node.0 ≡ l.old.out.node.0 → MeetsStorage l.old (not_zero (ticket_of lines.now) (purpose_of purpose) (flat_of (head_of v)) (at_of h) (counters_in l.old)) l.new result }
+    ensures meets { h.node.0 ≡ l.old.out.node.0 → MeetsStorage l.old (not_zero (ticket_of lines.now) (purpose_of purpose) (flat_of (head_of v)) (at_of h) (counters_in l.old)) l.new result }
+    ensures holds { Holds l.old l.new }
+    ensures marks { SameMarks l.old l.new }
+    ensures stack { SameStack l.old l.new }
 {
     let width = integer_width(lines, v.ty).ok_or(h.refuse(Refusal::UnsupportedType))?;
     let number = value_bytes(v).ok_or(h.refuse(Refusal::UnsupportedExpression))?;
@@ -197,7 +203,10 @@ pub fn value_as_bit(
     h: At,
 ) -> Result<BitOperand, Refused<Refusal>>
     requires { (Sound_value v) × (Room 2 l.old.out) }
-    ensures { h.node.0 ≡ l.old.out.node.0 → MeetsBit l.old (value_as_bit (ticket_of lines.now) (flat_of (head_of v)) (at_of h) (counters_in l.old)) l.new result }
+    ensures meets { h.node.0 ≡ l.old.out.node.0 → MeetsBit l.old (value_as_bit (ticket_of lines.now) (flat_of (head_of v)) (at_of h) (counters_in l.old)) l.new result }
+    ensures holds { Holds l.old l.new }
+    ensures marks { SameMarks l.old l.new }
+    ensures stack { SameStack l.old l.new }
 {
     if let Some(b) = value_bit(v) {
         return Ok(b);
@@ -213,7 +222,10 @@ pub fn integer_to_bool(
     h: At,
 ) -> Result<Value, Refused<Refusal>>
     requires { (Sound_value v) × (Room 2 l.old.out) }
-    ensures { h.node.0 ≡ l.old.out.node.0 → MeetsValue l.old (integer_to_bool (ticket_of lines.now) (flat_of (head_of v)) (at_of h) (counters_in l.old)) l.new result }
+    ensures meets { h.node.0 ≡ l.old.out.node.0 → MeetsValue l.old (integer_to_bool (ticket_of lines.now) (flat_of (head_of v)) (at_of h) (counters_in l.old)) l.new result }
+    ensures holds { Holds l.old l.new }
+    ensures marks { SameMarks l.old l.new }
+    ensures stack { SameStack l.old l.new }
 {
     let id = not_zero(lines, l, Purpose::IntegerToBoolean, v, h)?;
     Ok(bool_value(id))
@@ -253,7 +265,10 @@ pub fn lower_compare(
     h: At,
 ) -> Result<Value, Refused<Refusal>>
     requires { (Sound_value left) × (Sound_value right) × (Room 2 l.old.out) }
-    ensures { h.node.0 ≡ l.old.out.node.0 → MeetsValue l.old (lower_compare (ticket_of lines.now) (ticket.compare_op op) (flat_of (head_of left)) (flat_of (head_of right)) (at_of h) (counters_in l.old)) l.new result }
+    ensures meets { h.node.0 ≡ l.old.out.node.0 → MeetsValue l.old (lower_compare (ticket_of lines.now) (ticket.compare_op op) (flat_of (head_of left)) (flat_of (head_of right)) (at_of h) (counters_in l.old)) l.new result }
+    ensures holds { Holds l.old l.new }
+    ensures marks { SameMarks l.old l.new }
+    ensures stack { SameStack l.old l.new }
 {
     let width = integer_width(lines, left.ty).ok_or(h.refuse(Refusal::UnsupportedType))?;
     let a = value_bytes(left).ok_or(h.refuse(Refusal::UnsupportedExpression))?;
@@ -274,7 +289,9 @@ pub fn lower_read(
     h: At,
 ) -> Result<Value, Refused<Refusal>>
     requires { TypeRoom (ticket_of tables.now.lines) h.node.0 ty 0 l.old }
-    ensures { MeetsValue l.old (lower_read (ticket_of tables.now.lines) (place_at depth (ticket_of tables.now.lines) p) ty (at_of h) (counters_in l.old)) l.new result }
+    ensures meets { MeetsValue l.old (lower_read (ticket_of tables.now.lines) (place_at depth (ticket_of tables.now.lines) p) ty (at_of h) (counters_in l.old)) l.new result }
+    ensures holds { Holds l.old l.new }
+    ensures marks { SameMarks l.old l.new }
 {
     let found = places::resolve_place(tables, depth, p, ty).map_err(|r| h.refuse(r))?;
     reads::read_location(tables, l, found, h)
@@ -301,7 +318,10 @@ pub fn pointer_value(id: StorageId) -> Value
 
 pub fn lower_function_address(l: &mut Lowering<'_>, f: u64) -> Value
     requires { Room 2 l.old.out }
-    ensures { (T : Ticket) (h : hir.At) → TypesRight T → h.node ≡ l.old.out.node.0 → MeetsValue l.old (lower_function_address T f h (counters_in l.old)) l.new (Ok result) }
+    ensures meets { (T : Ticket) (h : hir.At) → TypesRight T → h.node ≡ l.old.out.node.0 → MeetsValue l.old (lower_function_address T f h (counters_in l.old)) l.new (Ok result) }
+    ensures holds { Holds l.old l.new }
+    ensures marks { SameMarks l.old l.new }
+    ensures stack { SameStack l.old l.new }
 {
     let pointer = addressing::allocate_pointer(&mut l.out);
     addressing::function_address(&mut l.out, pointer, f);
@@ -331,7 +351,9 @@ fn storage_address(
     h: At,
 ) -> Result<Value, Refused<Refusal>>
     requires { Room 2 l.old.out }
-    ensures { TypesRight (ticket_of lines.now) → h.node.0 ≡ l.old.out.node.0 → MeetsValue l.old (materialize_location_address (ticket_of lines.now) storage.0 bit o (at_of h) (counters_in l.old)) l.new result }
+    ensures meets { TypesRight (ticket_of lines.now) → h.node.0 ≡ l.old.out.node.0 → MeetsValue l.old (materialize_location_address (ticket_of lines.now) storage.0 bit o (at_of h) (counters_in l.old)) l.new result }
+    ensures holds { Holds l.old l.new }
+    ensures stack { SameStack l.old l.new }
 {
     if bit {
         return Err(h.refuse(Refusal::InvalidPlace));
@@ -351,7 +373,9 @@ pub fn lower_static_address(
     h: At,
 ) -> Result<Value, Refused<Refusal>>
     requires { Room 2 l.old.out }
-    ensures { TypesRight (ticket_of lines.now) → h.node.0 ≡ l.old.out.node.0 → MeetsValue l.old (lower_static_address (ticket_of lines.now) k o (at_of h) (counters_in l.old)) l.new result }
+    ensures meets { TypesRight (ticket_of lines.now) → h.node.0 ≡ l.old.out.node.0 → MeetsValue l.old (lower_static_address (ticket_of lines.now) k o (at_of h) (counters_in l.old)) l.new result }
+    ensures holds { Holds l.old l.new }
+    ensures stack { SameStack l.old l.new }
 {
     let p = lines.static_at(k).ok_or(h.refuse(Refusal::UnknownPlace))?;
     storage_address(lines, l, StorageId(p.storage), p.bit == 1, o, h)
@@ -366,7 +390,9 @@ pub fn lower_address_of(
     h: At,
 ) -> Result<Value, Refused<Refusal>>
     requires { Room 2 l.old.out }
-    ensures { h.node.0 ≡ l.old.out.node.0 → MeetsValue l.old (lower_address_of (ticket_of tables.now.lines) (place_at depth (ticket_of tables.now.lines) p) (at_of h) (counters_in l.old)) l.new result }
+    ensures meets { h.node.0 ≡ l.old.out.node.0 → MeetsValue l.old (lower_address_of (ticket_of tables.now.lines) (place_at depth (ticket_of tables.now.lines) p) (at_of h) (counters_in l.old)) l.new result }
+    ensures holds { Holds l.old l.new }
+    ensures stack { SameStack l.old l.new }
 {
     let base = places::resolve_addressed_place(tables, depth, p).map_err(|r| h.refuse(r))?;
     storage_address(&tables.lines, l, base.storage, base.bit, base.offset, h)

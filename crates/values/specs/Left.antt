@@ -1,6 +1,7 @@
 -- What a step leaves behind, and which outcome it was.
 use Rattle.std.specs.Prelude.{◌≡◌, refl, List, ◌∷◌, ◌++◌, map, [], ℕ, ◌+◌, ◌*◌, length, take, set, Result, Ok, Err}
-use Rattle.std.proofs.Common.{sym, ap, subst, append_assoc}
+use Rattle.std.proofs.Common.{sym, ap, subst, ◌∙◌, append_assoc}
+use Rattle.std.proofs.Math.ListN.{length-set}
 use Rattle.answers.specs.declared.Refusal.{Refusal}
 use Rattle.answers.specs.declared.Refused.{Refused}
 use Rattle.answers.specs.Refusals.{refusal_number}
@@ -11,7 +12,7 @@ use Rattle.lir.specs.Abstract.{bit_operand_of}
 use Rattle.lir.specs.declared.BitOperand.{BitOperand as Bit}
 use Rattle.lir.specs.declared.Source.{Source}
 use Rattle.emission.specs.declared.emitter.Emitter.{Emitter}
-use Rattle.emission.specs.Appends.{Appends, counters_of}
+use Rattle.emission.specs.Appends.{Appends, counters_of, Keeps, keeps_all, keeps_then}
 use Rattle.values.specs.declared.Lowering.{Lowering}
 use Rattle.values.specs.declared.Value.{Value as Val}
 use Rattle.values.specs.declared.Repr.{Repr as Rep}
@@ -33,6 +34,60 @@ abbrev pub with_stack : Lowering → List ℕ → Lowering
 with_stack l ws =
     record { out = l.out; narrowed = l.narrowed; stack = record { ref_ptr = l.stack.ref_ptr; ghost_name = l.stack.ghost_name; now = ws }; top = l.top }
 
+-- ---------------------------------------------------------------- the slices that were lent
+
+-- the same slices, as long as they were: so also where a step is refused, whatever it wrote before
+pub record Holds (l l' : Lowering) : Type 0 where
+  pub out : Keeps l.out l'.out
+  pub marks : l'.narrowed.ghost_name ≡ l.narrowed.ghost_name
+  pub marks_long : length l'.narrowed.now ≡ length l.narrowed.now
+  pub words : l'.stack.ghost_name ≡ l.stack.ghost_name
+  pub words_long : length l'.stack.now ≡ length l.stack.now
+
+-- no mark is set
+pub record SameMarks (l l' : Lowering) : Type 0 where
+  pub marks : l'.narrowed.now ≡ l.narrowed.now
+  pub same : l'.narrowed.ghost_name ≡ l.narrowed.ghost_name
+
+-- no word of the stack is written, free ones neither
+pub record SameStack (l l' : Lowering) : Type 0 where
+  pub words : l'.stack.now ≡ l.stack.now
+  pub same : l'.stack.ghost_name ≡ l.stack.ghost_name
+  pub top : l'.top ≡ l.top
+
+pub holds_all : (l : Lowering) → Holds l l
+holds_all l = record { out = keeps_all l.out; marks = refl; marks_long = refl; words = refl; words_long = refl }
+
+pub holds_then : {l l1 l2 : Lowering} → Holds l l1 → Holds l1 l2 → Holds l l2
+holds_then a b =
+    record {
+      out = keeps_then a.out b.out;
+      marks = b.marks ∙ a.marks;
+      marks_long = b.marks_long ∙ a.marks_long;
+      words = b.words ∙ a.words;
+      words_long = b.words_long ∙ a.words_long;
+    }
+
+-- a step that writes to the texts alone
+pub holds_out : {l : Lowering} {e : Emitter} → Keeps l.out e → Holds l (with_out l e)
+holds_out k = record { out = k; marks = refl; marks_long = refl; words = refl; words_long = refl }
+
+-- from another top, or to one
+pub holds_from : {l l1 : Lowering} {t : ℕ} → Holds (at_top l t) l1 → Holds l l1
+holds_from a = record { out = a.out; marks = a.marks; marks_long = a.marks_long; words = a.words; words_long = a.words_long }
+
+pub holds_to : {l l1 : Lowering} (t : ℕ) → Holds l l1 → Holds l (at_top l1 t)
+holds_to t a = record { out = a.out; marks = a.marks; marks_long = a.marks_long; words = a.words; words_long = a.words_long }
+
+-- as many words written to the stack
+pub holds_stack : {l l1 : Lowering} {ws : List ℕ} → length ws ≡ length l1.stack.now → Holds l l1 → Holds l (with_stack l1 ws)
+holds_stack e a = record { out = a.out; marks = a.marks; marks_long = a.marks_long; words = a.words; words_long = e ∙ a.words_long }
+
+pub marks_then : {l l1 l2 : Lowering} → SameMarks l l1 → SameMarks l1 l2 → SameMarks l l2
+marks_then a b = record { marks = b.marks ∙ a.marks; same = b.same ∙ a.same }
+
+-- ---------------------------------------------------------------- marks
+
 -- the marks, with those of the storages ns set
 unfoldable pub marked : List ℕ → List ℕ → List ℕ
 marked l [] = l
@@ -42,6 +97,11 @@ pub marked_append : (l ns ms : List ℕ) → marked l (ns ++ ms) ≡ marked (mar
 unfolding marked
 marked_append l [] ms = refl
 marked_append l (n ∷ ns) ms = marked_append (set l n 1) ns ms
+
+pub length_marked : (l ns : List ℕ) → length (marked l ns) ≡ length l
+unfolding marked
+length_marked l [] = refl
+length_marked l (n ∷ ns) = length_marked (set l n 1) ns ∙ length-set l n 1
 
 -- ---------------------------------------------------------------- records on the value stack
 

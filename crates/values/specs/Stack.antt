@@ -1,6 +1,8 @@
 -- The records on the value stack, read back; extract and select over them.
-use Rattle.std.specs.Prelude.{◌≡◌, refl, ◌&&◌, List, ◌∷◌, ◌++◌, map, [], ℕ, zero, suc, ◌+◌, ◌-◌, ◌*◌, ◌≤◌, eqb, length, take, drop, get_or, Option, None, Some}
+use Rattle.std.specs.Prelude.{◌≡◌, refl, ◌&&◌, List, ◌∷◌, ◌++◌, map, [], ℕ, zero, suc, ◌+◌, ◌-◌, ◌*◌, ◌≤◌, eqb, length, take, drop, get_or, Result, Ok, Err}
 use Rattle.std.proofs.Common.{sym, ap, ◌∙◌, arith, drop_at, take-take, take-add, length-take-le}
+use Rattle.answers.specs.declared.Refusal.{Refusal}
+use Rattle.answers.specs.Refusals.{refusal_number}
 use Rattle.spec.specs.Hir.{At}
 use Rattle.spec.specs.Lir.{BitOperand, ValueOperand, Value}
 use Rattle.spec.specs.Ticket.{Tables}
@@ -137,14 +139,14 @@ pub record Moved (stack : List ℕ) (top : ℕ) (hs : List Head) (stack' : List 
   pub topped : top' ≡ top + 8 * length parts
   pub stacked : take (top + 8 * length parts) stack' ≡ take top stack ++ values_words parts
 
-abbrev pub CaseExtract : List ℕ → ℕ → List Head → List ℕ → Option (Val × ℕ) → Type 0
-CaseExtract stack top [] stack' None = Unit {0}
-CaseExtract stack top [] stack' (Some x) = ⊥
-CaseExtract stack top (h ∷ hs) stack' None = ⊥
-CaseExtract stack top (h ∷ hs) stack' (Some x) = (head_of x.0 ≡ h) × Sound_value x.0 × Moved stack top (take (records h) hs) stack' x.1
+abbrev pub CaseExtract : List ℕ → ℕ → List Head → List ℕ → Result (Val × ℕ) Refusal → Type 0
+CaseExtract stack top [] stack' (Err k) = refusal_number k ≡ 24
+CaseExtract stack top [] stack' (Ok x) = ⊥
+CaseExtract stack top (h ∷ hs) stack' (Err k) = ⊥
+CaseExtract stack top (h ∷ hs) stack' (Ok x) = (head_of x.0 ≡ h) × Sound_value x.0 × Moved stack top (take (records h) hs) stack' x.1
 
 -- part i of v, whose parts stand from the top to an end: with its own parts moved down to the top
-pub record Extracts (stack : List ℕ) (top end : ℕ) (v : Val) (i : ℕ) (stack' : List ℕ) (r : Option (Val × ℕ)) : Type 0 where
+pub record Extracts (stack : List ℕ) (top end : ℕ) (v : Val) (i : ℕ) (stack' : List ℕ) (r : Result (Val × ℕ) Refusal) : Type 0 where
   pub shown : CaseExtract stack top (found_in (head_of v).shape (heads stack top end) i) stack' r
 
 -- ---------------------------------------------------------------- select over operands

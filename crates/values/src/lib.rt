@@ -84,12 +84,16 @@ pub fn value_words(v: Value) -> [u64; 8]
 }
 
 /// Stores a record; what has no room is dropped.
+// Word by word: a copy of as many as there is room for would be C's memcpy, which the archive for C then needs from outside.
 pub fn store8(stack: &mut [u64], at: usize, ws: [u64; 8])
     ensures { stack.new ≡ sets stack.old at ws }
 {
     if at < stack.len() {
-        let n = (stack.len() - at).min(8);
-        stack[at..at + n].copy_from_slice(&ws[..n]);
+        for j in 0..8 {
+            if at + j < stack.len() {
+                stack[at + j] = ws[j];
+            }
+        }
     }
 }
 

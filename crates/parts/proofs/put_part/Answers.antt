@@ -12,6 +12,6 @@ returns c =
     let l = a.stack.now in
     let w = c.value_words.ensures in
     record {
-      words = put_words l _ c.value_words.result _ _ _ a.p a.q a.mid a.end (ap length w ∙ length_value a.x) c.requires.0 c.requires.1 c.requires.2 c.requires.3 c.rotate_left.ensures.after refl c.copy_within.ensures.after c.store8.ensures
+      words = put_words l _ c.value_words.result _ _ _ a.p a.q a.mid a.end (ap length w ∙ length_value a.x) c.requires.0 c.requires.1 c.requires.2 c.requires.3 c.turn.ensures refl c.move_down.ensures c.store8.ensures
           ∙ ap (λ (z : List ℕ). take a.p l ++ (z ++ (seg a.mid a.end l ++ seg a.q a.mid l))) w;
     }

@@ -9,17 +9,17 @@ use Rattle.values.specs.Left.{stops}
 use Rattle.reads.specs.Reading.{at_of, part_type}
 use Rattle.reads.proofs.Lines.{Parted, size_at_of, read_here, plain_here, bool_size, parted_array, parted_fields, read_parted}
 use Rattle.reads.proofs.Laws.{leaf_meets, gather_meets, gather_stops, room_parts}
-use Rattle.reads.proofs.PartLaws.{rest_none, rest_first, rest_reach, rest_refused, rest_more}
+use Rattle.reads.proofs.PartLaws.{rest_none, rest_first, rest_reach, rest_refused, rest_holds, rest_marks, rest_more}
 use Rattle.reads.proofs.+read_bytes_as_type_read_parts.Goals as goal
 use Rattle.reads.proofs.+read_bytes_as_type_read_parts.Goals.{read_bytes_as_type-in-Array, read_bytes_as_type-in-Struct, read_bytes_as_type-in-Struct-2}
 
-pub read_bytes_as_type-returns-then-depth-eq0 : goal.read_bytes_as_type-returns-then-depth-eq0
+pub read_bytes_as_type-returns-then-depth-eq0-clause-meets : goal.read_bytes_as_type-returns-then-depth-eq0-clause-meets
 unfolding read_bytes_as_type
-read_bytes_as_type-returns-then-depth-eq0 t c = rw (c.if-depth-eq0.true, c.refuse.ensures) (stops refl)
+read_bytes_as_type-returns-then-depth-eq0-clause-meets t c = rw (c.if-depth-eq0.true, c.refuse.ensures) (stops refl)
 
-pub read_bytes_as_type-returns-in-Unit : goal.read_bytes_as_type-returns-in-Unit
+pub read_bytes_as_type-returns-in-Unit-clause-meets : goal.read_bytes_as_type-returns-in-Unit-clause-meets
 unfolding read_word
-read_bytes_as_type-returns-in-Unit t c =
+read_bytes_as_type-returns-in-Unit-clause-meets t c =
     let a = c.args in
     rw (read_here a.tables.now a.ty TypeKind.Unit (sym c.in-Unit.ensures) a.depth a.storage.0 a.o c.if-depth-eq0.false) (leaf_meets a.l.now _ (value a.ty unit) refl tt refl)
 
@@ -28,20 +28,20 @@ read_bytes_as_type-read_bool-requires t c =
     let a = c.args in
     room_less (omega (arith, bool_size a.tables.now a.ty (sym c.in-Bool.ensures))) c.requires.room
 
-pub read_bytes_as_type-returns-in-Bool : goal.read_bytes_as_type-returns-in-Bool
+pub read_bytes_as_type-returns-in-Bool-clause-meets : goal.read_bytes_as_type-returns-in-Bool-clause-meets
 unfolding read_word
-read_bytes_as_type-returns-in-Bool t c =
+read_bytes_as_type-returns-in-Bool-clause-meets t c =
     let a = c.args in
-    rw (read_here a.tables.now a.ty TypeKind.Bool (sym c.in-Bool.ensures) a.depth a.storage.0 a.o c.if-depth-eq0.false) (c.read_bool.ensures (ticket_of a.tables.now.lines) (at_of a.h) c.requires.node)
+    rw (read_here a.tables.now a.ty TypeKind.Bool (sym c.in-Bool.ensures) a.depth a.storage.0 a.o c.if-depth-eq0.false) (c.read_bool.ensures.meets (ticket_of a.tables.now.lines) (at_of a.h) c.requires.node)
 
-pub read_bytes_as_type-returns-in-Bits : goal.read_bytes_as_type-returns-in-Bits
-read_bytes_as_type-returns-in-Bits t c =
+pub read_bytes_as_type-returns-in-Bits-clause-meets : goal.read_bytes_as_type-returns-in-Bits-clause-meets
+read_bytes_as_type-returns-in-Bits-clause-meets t c =
     let a = c.args in
     rw (plain_here a.tables.now a.ty c.in-Bits.is c.type_at.ensures a.depth a.storage.0 a.o c.if-depth-eq0.false) (c.read_plain.ensures a.l.now (at_of a.h))
 
-pub read_bytes_as_type-returns-in-Float : goal.read_bytes_as_type-returns-in-Float
+pub read_bytes_as_type-returns-in-Float-clause-meets : goal.read_bytes_as_type-returns-in-Float-clause-meets
 unfolding read_word
-read_bytes_as_type-returns-in-Float t c =
+read_bytes_as_type-returns-in-Float-clause-meets t c =
     let a = c.args in
     rw (read_here a.tables.now a.ty (TypeKind.Float c.in-Float.field-0) (sym c.in-Float.ensures) a.depth a.storage.0 a.o c.if-depth-eq0.false, c.refuse-in-Float.ensures) (stops refl)
 
@@ -55,31 +55,37 @@ read_bytes_as_type-read_parts-requires t c =
     ] in
     (omega (arith, c.decreases, c.if-depth-eq0.false), room_parts parted.size parted.weight c.requires)
 
-pub read_bytes_as_type-returns-in_err-read_parts : goal.read_bytes_as_type-returns-in_err-read_parts
-read_bytes_as_type-returns-in_err-read_parts t c =
+pub read_bytes_as_type-returns-in_err-read_parts-clause-meets : goal.read_bytes_as_type-returns-in_err-read_parts-clause-meets
+read_bytes_as_type-returns-in_err-read_parts-clause-meets t c =
     let a = c.args in
     let parted : Parted (ticket_of a.tables.now.lines) a.tables.now.lines.lists.now a.ty c.match-type_at.parts.0 c.match-type_at.parts.1 = elim c.match-type_at.branch [
       | read_bytes_as_type-in-Array w ↦ rw w.parts-is (parted_array a.tables.now a.ty w.in-Array.is c.type_at.ensures)
       | read_bytes_as_type-in-Struct w ↦ rw w.parts-is (parted_fields a.tables.now a.ty w.in-Struct.is c.type_at.ensures)
       | read_bytes_as_type-in-Struct-2 w ↦ rw w.parts-is (parted_fields a.tables.now a.ty w.in-Struct.is c.type_at.ensures)
     ] in
-    rw (read_parted a.tables.now a.ty parted a.depth a.storage.0 a.o c.if-depth-eq0.false) (gather_stops a.ty _ _ (at_of a.h) c.in_err-read_parts.ensures c.from_residual.ensures.1)
+    rw (read_parted a.tables.now a.ty parted a.depth a.storage.0 a.o c.if-depth-eq0.false) (gather_stops a.ty _ _ (at_of a.h) c.in_err-read_parts.ensures.meets c.from_residual.ensures.1)
 
-pub read_bytes_as_type-returns : goal.read_bytes_as_type-returns
-read_bytes_as_type-returns t c =
+pub read_bytes_as_type-returns-clause-meets : goal.read_bytes_as_type-returns-clause-meets
+read_bytes_as_type-returns-clause-meets t c =
     let a = c.args in
     let parted : Parted (ticket_of a.tables.now.lines) a.tables.now.lines.lists.now a.ty c.match-type_at.parts.0 c.match-type_at.parts.1 = elim c.match-type_at.branch [
       | read_bytes_as_type-in-Array w ↦ rw w.parts-is (parted_array a.tables.now a.ty w.in-Array.is c.type_at.ensures)
       | read_bytes_as_type-in-Struct w ↦ rw w.parts-is (parted_fields a.tables.now a.ty w.in-Struct.is c.type_at.ensures)
       | read_bytes_as_type-in-Struct-2 w ↦ rw w.parts-is (parted_fields a.tables.now a.ty w.in-Struct.is c.type_at.ensures)
     ] in
-    rw (read_parted a.tables.now a.ty parted a.depth a.storage.0 a.o c.if-depth-eq0.false) (gather_meets a.ty _ _ (at_of a.h) c.in_ok-read_parts.ensures)
+    rw (read_parted a.tables.now a.ty parted a.depth a.storage.0 a.o c.if-depth-eq0.false) (gather_meets a.ty _ _ (at_of a.h) c.in_ok-read_parts.ensures.meets)
 
 pub read_parts-read_bytes_as_type-requires : goal.read_parts-read_bytes_as_type-requires
 read_parts-read_bytes_as_type-requires t c = (omega (arith, c.decreases), rw c.ty-ty.ensures (rest_first c.loop-i.invariant c.loop-i-test.true))
 
-pub read_parts-returns-in_err-head : goal.read_parts-returns-in_err-head
-read_parts-returns-in_err-head t c = rest_refused c.loop-i.invariant c.loop-i-test.true (rw c.ty-ty.ensures at c.in_err-head.ensures) c.from_residual.ensures.1
+pub read_parts-returns-in_err-head-clause-meets : goal.read_parts-returns-in_err-head-clause-meets
+read_parts-returns-in_err-head-clause-meets t c = rest_refused c.loop-i.invariant c.loop-i-test.true (rw c.ty-ty.ensures at c.in_err-head.ensures.meets) c.from_residual.ensures.1
+
+pub read_parts-returns-in_err-head-clause-holds : goal.read_parts-returns-in_err-head-clause-holds
+read_parts-returns-in_err-head-clause-holds t c = rest_holds c.loop-i.invariant c.loop-i-test.true c.in_err-head.ensures.holds
+
+pub read_parts-returns-in_err-head-clause-marks : goal.read_parts-returns-in_err-head-clause-marks
+read_parts-returns-in_err-head-clause-marks t c = rest_marks c.loop-i.invariant c.loop-i-test.true c.in_err-head.ensures.marks
 
 pub read_parts-overflow_add-at : goal.read_parts-overflow_add-at
 read_parts-overflow_add-at t c =
@@ -91,7 +97,7 @@ read_parts-loop-i-preserved t c =
     let T = c.args.tables.now in
     let s = rw c.ty-ty.ensures at c.type_size-at.ensures in
     let e = s ∙ sym (size_at_of T (part_type T.lines.lists.now c.args.parts c.loop-i.i)) in
-    rw (e, c.store8.ensures, c.value_words.ensures) (rest_more c.loop-i.invariant c.loop-i-test.true T.readable.types (rw c.ty-ty.ensures at c.in_ok-head.ensures))
+    rw (e, c.store8.ensures, c.value_words.ensures) (rest_more c.loop-i.invariant c.loop-i-test.true T.readable.types c.in_ok-head.ensures.holds c.in_ok-head.ensures.marks (rw c.ty-ty.ensures at c.in_ok-head.ensures.meets))
 
-pub read_parts-returns : goal.read_parts-returns
-read_parts-returns t c = rest_none c.loop-i.invariant c.loop-i-test.false
+pub read_parts-returns-clause-meets : goal.read_parts-returns-clause-meets
+read_parts-returns-clause-meets t c = rest_none c.loop-i.invariant c.loop-i-test.false

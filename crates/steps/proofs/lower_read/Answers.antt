@@ -8,9 +8,9 @@ use Rattle.steps.proofs.Asks.{told_err, place_stops, place_meets}
 use Rattle.steps.proofs.Laws.{room_found}
 use Rattle.steps.proofs.lower_read.Goals as goal
 
-pub returns-in_err-found : goal.returns-in_err-found
+pub returns-in_err-found-clause-meets : goal.returns-in_err-found-clause-meets
 unfolding lower_read
-returns-in_err-found c =
+returns-in_err-found-clause-meets c =
     let w = told_err _ c.resolve_place.result _ c.in_err-found.ensures.cases in
     let made = w.1.1 in
     let e : c.in_err-found.field-0.0 ≡ record { refusal = w.0; line = c.args.h.line } = search rules in
@@ -19,6 +19,6 @@ returns-in_err-found c =
 pub read_location-requires : goal.read_location-requires
 read_location-requires c = let e : c.resolve_place.result ≡ Ok c.in_ok-found.found = search rules in room_found c.args.tables.now _ _ _ c.resolve_place.ensures.at e c.resolve_place.ensures.near c.requires
 
-pub returns : goal.returns
+pub returns-clause-meets : goal.returns-clause-meets
 unfolding lower_read
-returns c = let e : c.resolve_place.result ≡ Ok c.in_ok-found.found = search rules in place_meets location_from c.resolve_place.result _ (at_of c.args.h) c.resolve_place.ensures.at e c.read_location.ensures
+returns-clause-meets c = let e : c.resolve_place.result ≡ Ok c.in_ok-found.found = search rules in place_meets location_from c.resolve_place.result _ (at_of c.args.h) c.resolve_place.ensures.at e c.read_location.ensures.meets

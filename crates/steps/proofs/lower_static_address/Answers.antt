@@ -8,10 +8,10 @@ use Rattle.reads.specs.Reading.{at_of}
 use Rattle.steps.proofs.Asks.{none_stops, some_meets}
 use Rattle.steps.proofs.lower_static_address.Goals as goal
 
-pub returns-in_err-p : goal.returns-in_err-p
+pub returns-in_err-p-clause-meets : goal.returns-in_err-p-clause-meets
 unfolding lower_static_address
-returns-in_err-p c = λ tr nd. none_stops placed_line c.static_at.result _ _ (at_of c.args.h) Refusal.UnknownPlace (nth_static _ _ _ _ ∙ c.static_at.ensures) c.in_err-p.ensures.value c.refuse.ensures c.from_residual.ensures.1
+returns-in_err-p-clause-meets c = λ tr nd. none_stops placed_line c.static_at.result _ _ (at_of c.args.h) Refusal.UnknownPlace (nth_static _ _ _ _ ∙ c.static_at.ensures) c.in_err-p.ensures.value c.refuse.ensures c.from_residual.ensures.1
 
-pub returns : goal.returns
+pub returns-clause-meets : goal.returns-clause-meets
 unfolding lower_static_address
-returns c = λ tr nd. some_meets placed_line c.static_at.result _ _ _ (at_of c.args.h) (nth_static _ _ _ _ ∙ c.static_at.ensures) c.in_ok-p.ensures.value (c.storage_address.ensures tr nd)
+returns-clause-meets c = λ tr nd. some_meets placed_line c.static_at.result _ _ _ (at_of c.args.h) (nth_static _ _ _ _ ∙ c.static_at.ensures) c.in_ok-p.ensures.value (c.storage_address.ensures.meets tr nd)
