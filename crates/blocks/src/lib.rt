@@ -132,7 +132,8 @@ impl Direction {
     }
 }
 
-// A square transposed is the same eight bytes the other way.
+// A square transposed is the same eight bytes the other way. Inlined, so that for each way the steps are constants.
+#[inline(always)]
 fn transpose_blocks(
     way: Direction,
     input: &[u8],

@@ -48,29 +48,34 @@ fn holds(
     answered(number, line, input.len(), a) && fields::same(output, expected)
 }
 
-// Whether the next case holds, over the first `room` bytes of an output.
+// Whether a case holds, over the first `room` bytes of an output. The arrays come first, since behind an exit compiled code fills them twice.
+fn case<R: Read>(reader: &mut R, head: [u64; 5]) -> bool {
+    let mut input = [0; 320];
+    let mut output = [0; 320];
+    let mut expected = [0; 320];
+    let [call, length, room, number, line] = head;
+    let room = room as usize;
+    let Some(input) = cases::read(reader, &mut input, length as usize) else {
+        return false;
+    };
+    let Some(expected) = cases::read(reader, &mut expected, room) else {
+        return false;
+    };
+    let Some(output) = output.get_mut(..room) else {
+        return false;
+    };
+    holds(call, number, line, input, output, expected)
+}
+
+// Whether the next case holds.
 fn replay<R: Read>(reader: &mut R) -> Option<bool> {
     let Ok(head) = cases::block_head::<5, R>(reader, 32)? else {
         return Some(false);
     };
-    let [call, length, room, number, line] = head;
-    let mut input = [0; 320];
-    let mut output = [0; 320];
-    let mut expected = [0; 320];
-    let room = room as usize;
-    let Some(input) = cases::read(reader, &mut input, length as usize) else {
-        return Some(false);
-    };
-    let Some(expected) = cases::read(reader, &mut expected, room) else {
-        return Some(false);
-    };
-    let Some(output) = output.get_mut(..room) else {
-        return Some(false);
-    };
-    Some(holds(call, number, line, input, output, expected))
+    Some(case(reader, head))
 }
 
 fn main(rt: HostRuntime) -> io::Result<()> {
     let tally = cases::run(&mut rt.stdin(), replay);
-    tally.print(&rt, "cases")
+    tally.print(&rt, b"cases")
 }

@@ -1,13 +1,13 @@
 -- What a reader gave, a line's numbers one by one, a buffer filled and looked at byte by byte, and a refusal's line as it is printed.
-use Rattle.std.proofs.Common.{◌≡◌, ℕ, zero, suc, ◌+◌, ◌/◌, ◌%◌, ◌^◌, ◌≤◌, ◌<◌, Bool, true, false, ◌&&◌, List, [], ◌∷◌, ◌++◌, Option, None, Some, length, replicate, get_or, take, drop, set, refl, sym, ap, ◌∙◌, append_assoc, append-nil, length-append, length-take, length-set, ⊎_elim, drop-cons, add-one, eqb, leb, ne_eqb, eq-eqb, arith, eqb-true, add-zero, zero-add, length-drop, length-take-le, Result, Ok, Err}
+use Rattle.std.proofs.Common.{◌≡◌, ℕ, zero, suc, ◌+◌, ◌/◌, ◌%◌, ◌^◌, ◌≤◌, ◌<◌, Bool, true, false, ◌&&◌, List, [], ◌∷◌, ◌++◌, Option, None, Some, length, replicate, get_or, take, drop, set, refl, sym, ap, ◌∙◌, append_assoc, append-nil, length-append, length-take, length-set, ⊎_elim, drop-cons, add-one, eqb, leb, ne_eqb, eq-eqb, arith, eqb-true, zero-add, length-take-le, Result, Ok, Err}
 use Rattle.std.proofs.Math.Nat.{pow-suc}
 use Rattle.std.proofs.lemmas.List.FromFn.{fill_by_all, length-map-range_with_len, get_or-map-range_with_len}
-use Rattle.std.proofs.Math.Seq.{take-suc-set, take_all, length-sets, sets-eq, take_at}
-use Rattle.std.proofs.lemmas.List.{drop_all, length-replicate, get_or-take}
+use Rattle.std.proofs.Math.Seq.{take-suc-set, take_all, length-sets, sets-eq, take_at, take-append-add}
+use Rattle.std.proofs.lemmas.List.{drop_all, length-replicate, get_or-take, take-append-le}
 use Rattle.std.proofs.lemmas.Bool.{cases_lt}
-use Rattle.std.specs.List.{enumerate_from, list_all}
 use Rattle.std.specs.Option.{ok_or}
 use Rattle.std.specs.Io.KnownBytes.{Consumes}
+use Rattle.std.proofs.KnownBytes.{Consumes-trans}
 use Rattle.std.specs.Fn.{Once, FnOnceReturnsAtMut}
 use Rattle.std.specs.Borrow.{MutBor}
 use Rattle.spec.specs.Text.{bytes, fields, line, digits, same, split, comma, line_feed, number}
@@ -29,6 +29,15 @@ use Rattle.cases.specs.Cases.{exactly, GivesLine, GivesBlock, Unended, BadLine, 
 pub record Taking (known known' : Option (List ℕ)) (line : List ℕ) (n : ℕ) : Type 0 where
   pub given : Consumes known known' (take n line)
   pub unended : Unended line n
+
+-- n bytes are given behind the first m, into the part that begins there
+pub given_more : (a b c : Option (List ℕ)) (m n : ℕ) (xs ys zs : List ℕ) → m ≤ length xs → n ≤ length ys → Consumes a b (take m xs) → Consumes b c (take n ys)
+    → Consumes a c (take (m + n) (take m xs ++ (ys ++ zs)))
+given_more a b c m n xs ys zs h k p q =
+    let e : length (take m xs) ≡ m = length-take-le m xs h in
+    let t : take (m + n) (take m xs ++ (ys ++ zs)) ≡ take m xs ++ take n ys =
+    ap (λ (i : ℕ). take (i + n) (take m xs ++ (ys ++ zs))) (sym e) ∙ take-append-add (take m xs) (ys ++ zs) n ∙ ap (λ (l : List ℕ). take m xs ++ l) (take-append-le n ys zs k) in
+    rw t (Consumes-trans a b c (take m xs) (take n ys) p q)
 
 -- ---------------------------------------------------------------- a head's numbers
 
@@ -169,30 +178,6 @@ module _ (l : List ℕ) (i : ℕ) where
 
   pub kept_more : i < length l → get_or l i 0 ≡ mark i → kept l i ≡ kept l (i + 1)
   kept_more h e = there h ∙ rw (eq-eqb (get_or l i 0) (mark i) e)
-
--- a byte with its place is as it was filled
-abbrev pub is_marked : ℕ × ℕ → Bool
-is_marked p = eqb p.1 (mark p.0)
-
--- every byte from a place on
-all_kept : (l : List ℕ) (i : ℕ) (xs : List ℕ) → drop i l ≡ xs → list_all is_marked (enumerate_from i xs) ≡ kept l i
-all_kept l i [] e = sym (kept_end l i (let n : length (drop i l) ≡ 0 = ap length e in omega (arith, length-drop i l)))
-all_kept l i (x ∷ xs) e =
-    let n : length (drop i l) ≡ suc (length xs) = ap length e in
-    let h : i < length l = omega (arith, length-drop i l) in
-    let c : drop i l ≡ get_or l i 0 ∷ drop (suc i) l = drop-cons l i 0 h in
-    let d : get_or l i 0 ∷ drop (suc i) l ≡ x ∷ xs = sym c ∙ e in
-    let v : get_or l i 0 ≡ x = cc in
-    let w : drop (i + 1) l ≡ xs = rw add-one (cc) in
-    rw (there l i h, v, all_kept l (i + 1) xs w)
-
-drop_enumerate : (k n : ℕ) (xs : List ℕ) → drop k (enumerate_from n xs) ≡ enumerate_from (n + k) (drop k xs)
-drop_enumerate zero n xs = rw add-zero
-drop_enumerate (suc k) n [] = refl
-drop_enumerate (suc k) n (x ∷ xs) = let e : n + 1 + k ≡ n + suc k = omega arith in drop_enumerate k (n + 1) xs ∙ rw e
-
-pub kept_all : (l : List ℕ) (i : ℕ) (r : Bool) → r ≡ list_all is_marked (drop i (enumerate_from 0 l)) → r ≡ kept l i
-kept_all l i r h = h ∙ rw (drop_enumerate i 0 l, zero-add) (all_kept l i (drop i l) refl)
 
 -- ---------------------------------------------------------------- a refusal's line
 

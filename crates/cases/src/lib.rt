@@ -52,17 +52,19 @@ pub fn read_line<R: Read>(reader: &mut R, line: &mut [u8]) -> Option<Result<usiz
     Some(Err(Broken))
 }
 
-// As many bytes as there are, up to the length of `bytes`. Byte by byte, since `read_exact` tells nothing of what it took where it fails.
+// As many bytes as there are, up to the length of `bytes`. By `read`, since `read_exact` tells nothing of what it took where it fails.
+#[tactic(auto, using(crate::proofs::Laws::given_more))]
 fn read_first<R: Read>(reader: &mut R, bytes: &mut [u8]) -> usize
     ensures { GivesFirst (R.remaining reader.old) (R.remaining reader.new) bytes.new result }
 {
-    for (n, slot) in bytes.iter_mut().enumerate() {
-        match next_byte(reader) {
-            Some(byte) => *slot = byte,
-            None => return n,
+    let mut done = 0;
+    while done < bytes.len() {
+        match reader.read(&mut bytes[done..]) {
+            Ok(0) | Err(_) => break,
+            Ok(n) => done += n,
         }
     }
-    bytes.len()
+    done
 }
 
 // The line in front of a block, with line feeds behind it, as many bytes, or `None` at the end.
@@ -162,8 +164,12 @@ pub fn fill(buffer: &mut [u8])
 pub fn untouched(buffer: &[u8], from: usize) -> bool
     ensures { result ≡ kept buffer.now from }
 {
-    let mut rest = buffer.iter().enumerate().skip(from);
-    rest.all(|(i, byte)| *byte == mark(i))
+    for i in from..buffer.len() {
+        if buffer[i] != mark(i) {
+            return false;
+        }
+    }
+    true
 }
 
 // The line of a refusal, and its length. `Refused` has this text as its `Display`, but what a `write!` wrote is known only where it is

@@ -21,8 +21,10 @@ impl Tally {
         }
     }
 
-    /// `N WHAT, M failed`. It has no `ensures`, since no clause can say what standard output takes.
-    pub fn print(self, rt: &impl Print, what: &str) -> io::Result<()> {
-        println!(rt; "{} {what}, {} failed", self.ran, self.failed)
+    /// `N WHAT, M failed`, WHAT being any bytes. It has no `ensures`, since no clause can say what standard output takes.
+    pub fn print(self, rt: &impl Print, what: &[u8]) -> io::Result<()> {
+        print!(rt; "{} ", self.ran)?;
+        rt.write_all(what)?;
+        println!(rt; ", {} failed", self.failed)
     }
 }

@@ -100,7 +100,7 @@ fn lower_with(
 // `lists` for two bytes of text; 8 of `stack` for each record of the nodes' values, and one of `narrowed` for each storage of a ticket that
 // reading accepts; where `rows` has 41,000, these are too few exactly then. With fewer they can be too few too: there are 40 for each line of
 // the kind that has the most, and 40 more. 65,536 words of stack and 256 of narrowed are enough for every ticket.
-// `code` and `store` may have any length: where they hold the listing's halves, the ticket is lowered once, else three times.
+// `code` and `store` may have any length: where they hold the listing's halves, the ticket is lowered once, else twice.
 // Each slice is a parameter of its own, as C hands them.
 #[tactic(auto, using(crate::proofs::Laws::answer_unread, crate::proofs::Laws::text_too_long, crate::proofs::Laws::tries_for, crate::proofs::Laws::unread_few))]
 pub fn lower_in(

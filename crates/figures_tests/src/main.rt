@@ -24,26 +24,31 @@ fn holds_within(lines: &[u8], expected: &[u8], buffer: &mut [u8], room: usize) -
     cases::within(buffer, room, |part| holds(lines, expected, part))
 }
 
+// Whether a text is answered so, behind its head. The arrays come first, since behind an exit compiled code fills them twice.
+fn case<R: Read>(reader: &mut R, head: [u64; 3]) -> bool {
+    let mut lines = [0; 32768];
+    let mut expected = [0; 256];
+    let mut buffer = [0; 256];
+    let [size, room, length] = head;
+    let Some(lines) = cases::read(reader, &mut lines, size as usize) else {
+        return false;
+    };
+    let Some(expected) = cases::read(reader, &mut expected, length as usize) else {
+        return false;
+    };
+    let room = room as usize;
+    holds_within(lines, expected, &mut buffer, room)
+}
+
 // Whether the next text is answered so.
 fn replay<R: Read>(reader: &mut R) -> Option<bool> {
     let Ok(head) = cases::line_head::<3, R>(reader)? else {
         return Some(false);
     };
-    let [size, room, length] = head;
-    let mut lines = [0; 32768];
-    let mut expected = [0; 256];
-    let mut buffer = [0; 256];
-    let Some(lines) = cases::read(reader, &mut lines, size as usize) else {
-        return Some(false);
-    };
-    let Some(expected) = cases::read(reader, &mut expected, length as usize) else {
-        return Some(false);
-    };
-    let room = room as usize;
-    Some(holds_within(lines, expected, &mut buffer, room))
+    Some(case(reader, head))
 }
 
 fn main(rt: HostRuntime) -> io::Result<()> {
     let tally = cases::run(&mut rt.stdin(), replay);
-    tally.print(&rt, "texts")
+    tally.print(&rt, b"texts")
 }

@@ -60,24 +60,29 @@ fn holds<'a>(ticket: &'a [u8], listing: &'a [u8], k: u64, text: u64, from: u64, 
     lines::storage_place(ticket, listing, k) == place && handed_at(ticket, listing, k, place)
 }
 
+// Whether a case holds, behind its head. The arrays come first, since behind an exit compiled code fills them twice.
+fn case<R: Read>(reader: &mut R, head: [u64; 6]) -> bool {
+    let mut ticket = [0; 65536];
+    let mut listing = [0; 65536];
+    let [a, b, k, text, from, to] = head;
+    let Some(ticket) = cases::read(reader, &mut ticket, a as usize) else {
+        return false;
+    };
+    let Some(listing) = cases::read(reader, &mut listing, b as usize) else {
+        return false;
+    };
+    holds(ticket, listing, k, text, from, to)
+}
+
 // Whether the next case holds.
 fn replay<R: Read>(reader: &mut R) -> Option<bool> {
     let Ok(head) = cases::line_head::<6, R>(reader)? else {
         return Some(false);
     };
-    let [a, b, k, text, from, to] = head;
-    let mut ticket = [0; 65536];
-    let mut listing = [0; 65536];
-    let Some(ticket) = cases::read(reader, &mut ticket, a as usize) else {
-        return Some(false);
-    };
-    let Some(listing) = cases::read(reader, &mut listing, b as usize) else {
-        return Some(false);
-    };
-    Some(holds(ticket, listing, k, text, from, to))
+    Some(case(reader, head))
 }
 
 fn main(rt: HostRuntime) -> io::Result<()> {
     let tally = cases::run(&mut rt.stdin(), replay);
-    tally.print(&rt, "cases")
+    tally.print(&rt, b"cases")
 }

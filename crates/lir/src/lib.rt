@@ -307,8 +307,7 @@ impl Fields for u64 {
     ghost texts = { λ n. digits n ∷ [] };
 
     fn print(self, w: &mut Writer<'_>) {
-        w.put(b',');
-        w.number(self);
+        w.field(self);
     }
 }
 
@@ -341,10 +340,7 @@ impl Fields for ByteStorage {
     ghost texts = { λ b. byte_storage (byte_storage_of b) ∷ [] };
 
     fn print(self, w: &mut Writer<'_>) {
-        w.put(b',');
-        w.number(self.storage.0);
-        w.put(b'.');
-        w.number(self.offset);
+        w.field_of_two(self.storage.0, b'.', self.offset);
     }
 }
 
@@ -365,15 +361,23 @@ fn print_constant(w: &mut Writer<'_>, n: u64)
     w.number(n);
 }
 
+// An operand. Inlined, for the loop over a value's bytes: as a call, which takes its operand from memory, that takes a fifth longer.
 #[tactic(auto, unfolding(spec::specs::Print::byte_operand))]
+#[inline(always)]
+fn print_operand(w: &mut Writer<'_>, b: ByteOperand)
+    ensures { WritesFields w.old (byte_operand (byte_operand_of b) ∷ []) w.new }
+{
+    match b {
+        ByteOperand::Immediate(n) => print_constant(w, n),
+        ByteOperand::Storage(s) => s.print(w),
+    }
+}
+
 impl Fields for ByteOperand {
     ghost texts = { λ b. byte_operand (byte_operand_of b) ∷ [] };
 
     fn print(self, w: &mut Writer<'_>) {
-        match self {
-            ByteOperand::Immediate(n) => print_constant(w, n),
-            ByteOperand::Storage(s) => s.print(w),
-        }
+        print_operand(w, self);
     }
 }
 
@@ -411,7 +415,7 @@ impl Fields for Bytes {
     fn print(self, w: &mut Writer<'_>) {
         self.total.print(w);
         for i in 0..self.total {
-            byte_at(self, i).print(w);
+            print_operand(w, byte_at(self, i));
         }
     }
 }

@@ -47,25 +47,30 @@ fn holds(ticket: &[u8], expected: &[u8], buffer: &mut [u8]) -> bool
     cases::judged(answer, expected, buffer) && (answer.is_err() || roomy(ticket, expected, buffer))
 }
 
-// The next ticket, behind its head.
+// A ticket, behind its head. The arrays come first, since behind an exit compiled code fills them twice.
+fn case<R: Read>(reader: &mut R, head: [u64; 2]) -> bool {
+    let mut ticket = [0; 65540];
+    let mut expected = [0; 65536];
+    let mut buffer = [0; 65536];
+    let [size, length] = head;
+    let Some(ticket) = cases::read(reader, &mut ticket, size as usize) else {
+        return false;
+    };
+    let Some(expected) = cases::read(reader, &mut expected, length as usize) else {
+        return false;
+    };
+    holds(ticket, expected, &mut buffer)
+}
+
+// The next ticket.
 fn replay<R: Read>(reader: &mut R) -> Option<bool> {
     let Ok(head) = cases::block_head::<2, R>(reader, 16)? else {
         return Some(false);
     };
-    let [size, length] = head;
-    let mut ticket = [0; 65540];
-    let mut expected = [0; 65536];
-    let mut buffer = [0; 65536];
-    let Some(ticket) = cases::read(reader, &mut ticket, size as usize) else {
-        return Some(false);
-    };
-    let Some(expected) = cases::read(reader, &mut expected, length as usize) else {
-        return Some(false);
-    };
-    Some(holds(ticket, expected, &mut buffer))
+    Some(case(reader, head))
 }
 
 fn main(rt: HostRuntime) -> io::Result<()> {
     let tally = cases::run(&mut rt.stdin(), replay);
-    tally.print(&rt, "tickets")
+    tally.print(&rt, b"tickets")
 }

@@ -1,6 +1,6 @@
 -- Shifts and rotates, at every width.
-use Rattle.std.proofs.Common.{◌≡◌, ℕ, zero, suc, ◌+◌, ◌-◌, ◌*◌, ◌/◌, ◌%◌, ◌^◌, ◌<◌, ◌≤◌, sym, ap, ◌∙◌, ap₂, mod-lt, mod-eq_of_lt, div-one, arith, pow_pos, pow-add, shr-shr}
-use Rattle.std.proofs.Math.Nat.{mul-mod_left, mod_self, div-eq_of_lt}
+use Rattle.std.proofs.Common.{◌≡◌, ℕ, ◌+◌, ◌-◌, ◌*◌, ◌/◌, ◌%◌, ◌^◌, ◌<◌, ◌≤◌, sym, ap, ◌∙◌, ap₂, mod-lt, div-one, arith, pow_pos, pow-add, shr-shr}
+use Rattle.std.proofs.Math.Nat.{mul-mod_left}
 use Rattle.std.proofs.lemmas.Nat.{mod-pow-add, shl-shr, shr_below, mul-add-lt, mul-mod_first}
 use Rattle.numerics.specs.Numerics.{rotated_left, rotated_right}
 use Rattle.numerics.specs.Functions.{IsWidth}
@@ -34,15 +34,12 @@ module _ (N a k : ℕ) (w : IsWidth N) (l : k < N) where
   pub rotated_fits : (a * 2 ^ k) % 2 ^ 64 % 2 ^ N + a % 2 ^ N / 2 ^ 1 / 2 ^ (N - 1 - k) < 2 ^ 64
   rotated_fits = omega (arith, rotated_is, rotated_lt N (a % 2 ^ N) k (mod-lt a (pow_pos N)) (omega arith), pow_fits N w)
 
--- to the right by k is to the left by N - k, and by 0 neither
-other : (N i k : ℕ) → i < 2 ^ N → k < N → rotated_left N i ((N - k) % N) ≡ rotated_right N i k
+-- to the right by k is to the left by N - k
+pub rotated_other : (N i k : ℕ) → k ≤ N → rotated_left N i (N - k) ≡ rotated_right N i k
 unfolding rotated_left rotated_right
-other N i zero h l =
-    let e : N - 0 ≡ N = omega arith in
-    rw (e, mod_self N, mul-mod_left i (2 ^ N), e) (let t : i * 2 ^ 0 ≡ i = omega arith in rw (t, mod-eq_of_lt h, div-eq_of_lt h) (sym (ap (λ (x : ℕ). x + 0) (div-one i))))
-other N i (suc k) h l =
-    let e : (N - suc k) % N ≡ N - suc k = mod-eq_of_lt (omega arith) in
-    rw (e, let f : N - (N - suc k) ≡ suc k = omega arith in f) (omega arith)
+rotated_other N i k l = rw (let e : N - (N - k) ≡ k = omega arith in e) (omega arith)
 
-pub rotated_other : (N a k : ℕ) → k < N → rotated_left N (a % 2 ^ N) ((N - k) % N) ≡ rotated_right N (a % 2 ^ N) k
-rotated_other N a k l = other N (a % 2 ^ N) k (mod-lt a (pow_pos N)) l
+-- a rotate by 0 places
+pub rotated_none : (N i : ℕ) → i ≡ rotated_right N i 0
+unfolding rotated_right
+rotated_none N i = sym (ap₂ (λ (x y : ℕ). x + y) (div-one i) (ap (λ (x : ℕ). i * 2 ^ x % 2 ^ N) (let e : N - 0 ≡ N = omega arith in e) ∙ mul-mod_left i (2 ^ N)) ∙ (let e : i + 0 ≡ i = omega arith in e))

@@ -71,11 +71,18 @@ pub fn irotl(n: u64, a: u64, b: u64) -> u64
 }
 
 // To the right by k is to the left by n - k.
-#[tactic(auto, using(crate::proofs::Moves::rotated_other), unfolding(crate::specs::Functions::binary_at, crate::specs::Numerics::irotr))]
+#[tactic(auto, using(crate::proofs::Moves::rotated_other, crate::proofs::Moves::rotated_none), unfolding(crate::specs::Functions::binary_at, crate::specs::Numerics::irotr))]
 pub fn irotr(n: u64, a: u64, b: u64) -> u64
     ensures { result ≡ binary_at wasm.irotr n a b }
 {
-    Width::new(n).map_or(0, |w| turned(w, a, (n - w.distance(b)) % n))
+    Width::new(n).map_or(0, |w| {
+        let k = w.distance(b);
+        if k == 0 {
+            w.low(a)
+        } else {
+            turned(w, a, n - k)
+        }
+    })
 }
 
 #[tactic(auto, using(crate::proofs::Counts::leading_enough, crate::proofs::Counts::leading_left), unfolding(crate::specs::Functions::unary_at, crate::specs::Numerics::iclz))]

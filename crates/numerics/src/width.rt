@@ -26,9 +26,11 @@ impl Width {
     pub fn pair(low: u64, high: u64) -> Option<(Width, Width)>
         ensures { MatchOption result (widths low high ≡ false) (λ p. (p.0.bits ≡ low) × (p.1.bits ≡ high) × (low ≤ high)) }
     {
-        let narrow = Width::new(low)?;
         let wide = Width::new(high)?;
-        (low <= high).then_some((narrow, wide))
+        match low {
+            1.. if low <= high => Some((Width { bits: low }, wide)),
+            _ => None,
+        }
     }
 
     /// 2^n - 1: all n bits set.

@@ -27,20 +27,25 @@ fn holds(ticket: &[u8], number: u64, line: u64) -> bool
     }
 }
 
-// The next ticket, behind its head.
+// A ticket, behind its head. The array comes first, since behind an exit compiled code fills it twice.
+fn case<R: Read>(reader: &mut R, head: [u64; 3]) -> bool {
+    let mut ticket = [0; 65538];
+    let [size, number, line] = head;
+    let Some(ticket) = cases::read(reader, &mut ticket, size as usize) else {
+        return false;
+    };
+    holds(ticket, number, line)
+}
+
+// The next ticket.
 fn replay<R: Read>(reader: &mut R) -> Option<bool> {
     let Ok(head) = cases::line_head::<3, R>(reader)? else {
         return Some(false);
     };
-    let [size, number, line] = head;
-    let mut ticket = [0; 65538];
-    let Some(ticket) = cases::read(reader, &mut ticket, size as usize) else {
-        return Some(false);
-    };
-    Some(holds(ticket, number, line))
+    Some(case(reader, head))
 }
 
 fn main(rt: HostRuntime) -> io::Result<()> {
     let tally = cases::run(&mut rt.stdin(), replay);
-    tally.print(&rt, "tickets")
+    tally.print(&rt, b"tickets")
 }

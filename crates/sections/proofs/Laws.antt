@@ -6,8 +6,8 @@ use mathlib.Core.List.{List, ◌++◌, append_assoc}
 use native.Mathlib.Omega.{arith}
 use lib.Dec.{leb}
 use borrow.Author.Tests.{le-leb, lt-leb}
-use lib.ListN.{length, take, drop, get_or, length-append, length-drop}
-use lib.Seq.{sets, sets-eq, length-sets, length-take-le, take_at, take_all}
+use lib.ListN.{length, take, drop, get_or, length-append}
+use lib.Seq.{sets, sets-eq, length-sets, drop-drop, take_at, take_all}
 use Rattle.std.specs.Prelude.{Result, Ok, Err}
 use Rattle.std.specs.Result.{IsErrAnd}
 use Rattle.std.proofs.lemmas.Result.{err_from_is_err_and}
@@ -278,9 +278,6 @@ front_is : (l x : List ℕ) (end : ℕ) → end ≤ length l → end ≡ length 
 front_is l x end h e = let z : 0 + length x ≡ end = omega arith in ap (λ (k : ℕ). x ++ drop k l) (sym z) ∙ sym (sets-eq x l 0 (omega arith))
 
 module _ (l : List ℕ) (front end : ℕ) (h : front ≤ end) (k : end ≤ length l) where
-  pub behind_long : (y : List ℕ) → length y ≡ front → length (take (end - front) (drop front (y ++ drop front l))) ≡ end - front
-  behind_long y e = length-take-le (end - front) (drop front (y ++ drop front l)) (omega (arith, length-drop front (y ++ drop front l), length-append y (drop front l), length-drop front l))
-
   pub halves_is : (x w : List ℕ) {y z : List ℕ} → length x ≡ front → length w ≡ end - front → y ≡ x → z ≡ w
       → take front (y ++ drop front l) ++ (z ++ drop (end - front) (drop front (y ++ drop front l))) ≡ sets (sets l 0 x) front w
   halves_is x w {y} {z} i j p q =
@@ -290,15 +287,20 @@ module _ (l : List ℕ) (front end : ℕ) (h : front ≤ end) (k : end ≤ lengt
       ∙ middle_is (sets l 0 x) w front end h (omega arith) (sym j)
 
 -- each half is in the part of the buffer that it fills
-pub halves_written : {T : Tables} {m : Sections} (S : Sectioned T m) → m.end < last → (l : List ℕ) → m.end ≤ length l → {y z store code : List ℕ}
-    → Halves T y code → length y ≡ length (take m.front l) → Halves T store z → length z ≡ length (take (m.end - m.front) (drop m.front (y ++ drop m.front l)))
-    → ListingPut T l (take m.front (y ++ drop m.front l) ++ (z ++ drop (m.end - m.front) (drop m.front (y ++ drop m.front l))))
-halves_written {T} {m} S h l k {y} {z} H e K f =
+pub halves_written : {T : Tables} {m : Sections} (S : Sectioned T m) → m.end < last → (l : List ℕ) → m.end ≤ length l → {r : List ℕ} → r ≡ drop m.front l → {y z : List ℕ}
+    → Halves T y z → length y ≡ m.front → length z ≡ m.end - m.front → ListingPut T l (y ++ (z ++ drop (m.end - m.front) r))
+halves_written {T} {m} S h l k {r} c {y} {z} H e f =
+    let F = front_text T S.out in
+    let B = back_text S.value S.counters S.out in
+    let R = drop m.end l in
     let g = half_first S h in
-    let i : length y ≡ m.front = e ∙ length-take-le m.front l (omega arith) in
-    let j : length z ≡ m.end - m.front = f ∙ behind_long l m.front m.end g k y i in
+    let n : m.end ≡ length (F ++ B) = omega (arith, front_exact S h, end_exact S h, length-append F B) in
+    let i : m.front + (m.end - m.front) ≡ m.end = omega arith in
+    let d : drop (m.end - m.front) r ≡ R =
+    ap (λ (u : List ℕ). drop (m.end - m.front) u) c ∙ drop-drop (m.end - m.front) m.front l ∙ ap (λ (u : ℕ). drop u l) i in
     halves_put S h l
-    (halves_is l m.front m.end g k (front_text T S.out) (back_text S.value S.counters S.out) (sym (front_exact S h)) (omega (arith, end_exact S h)) (front_whole S h H i) (back_whole S h K j))
+    (ap (λ (u : List ℕ). y ++ (z ++ u)) d ∙ ap (λ (u : List ℕ). u ++ (z ++ R)) (front_whole S h H e) ∙ ap (λ (u : List ℕ). F ++ (u ++ R)) (back_whole S h H f)
+    ∙ sym (append_assoc F B R) ∙ front_is l (F ++ B) m.end k n ∙ sets_append l 0 F B ∙ ap (λ (u : ℕ). sets (sets l 0 F) u B) (omega (arith, front_exact S h)))
 
 -- ---------------------------------------------------------------- the answer
 

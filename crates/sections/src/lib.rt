@@ -1,8 +1,8 @@
 // The listing of a ticket that is read, in two halves, in a lent buffer.
 //
 // The ticket is lowered over two lent slices, which finds every refusal and where each half of the listing ends. If the buffer is long
-// enough, the listing is copied from them; one that they have no room for is made in the buffer, by lowering again for each half. So a
-// refusal writes nothing.
+// enough, the listing is copied from them; one that they have no room for is made in the buffer, by lowering once more. So a refusal
+// writes nothing.
 #![tactic(auto)]
 
 ghost use Rattle.std.specs.Prelude.{◌≡◌, ℕ, ◌+◌, ◌-◌, ◌≤◌, length, take, get_or, IfOk};
@@ -148,8 +148,9 @@ fn measure(
     run(tables, &mut lent)
 }
 
-// The listing into a buffer that is long enough, half by half. What was lowered once is not refused.
-#[tactic(auto, using(crate::proofs::Laws::halves_written))]
+// The listing into a buffer that is long enough, both halves at a time: a run for each would print the value once more than it need be.
+// What was lowered once is not refused.
+// The whole buffer is split: where `buffer[..end]` is, it is not known what the buffer ends as.
 fn write(
     tables: &Tables<'_>,
     narrowed: &mut [u64],
@@ -162,18 +163,27 @@ fn write(
 {
     let Sections { front, end } = m;
     narrowed.fill(0);
-    let _ = measure(tables, &mut [], &mut buffer[..front], narrowed, stack);
-    narrowed.fill(0);
-    let _ = measure(tables, &mut buffer[front..end], &mut [], narrowed, stack);
+    let (store, rest) = buffer.split_at_mut(front);
+    let _ = measure(tables, &mut rest[..end - front], store, narrowed, stack);
 }
 
-// One half behind the other: two of the library's copies, and what they leave together.
+// The library's copy would be C's memmove, which the archive for C then needs from outside.
+fn copy_half(to: &mut [u8], from: &[u8])
+    requires { length to.old ≡ length from.now }
+    ensures { to.new ≡ from.now }
+{
+    for i in 0..from.len() {
+        to[i] = from[i];
+    }
+}
+
+// One half behind the other.
 fn copy_halves(store: &[u8], code: &[u8], buffer: &mut [u8], front: usize, end: usize)
     requires { (front ≤ end) × (end ≤ length buffer.old) × (front ≤ length store.now) × (end - front ≤ length code.now) }
     ensures { buffer.new ≡ sets (sets buffer.old 0 (take front store.now)) front (take (end - front) code.now) }
 {
-    buffer[..front].copy_from_slice(&store[..front]);
-    buffer[front..end].copy_from_slice(&code[..end - front]);
+    copy_half(&mut buffer[..front], &store[..front]);
+    copy_half(&mut buffer[front..end], &code[..end - front]);
 }
 
 /// The listing of what was read, lowered and written, and its length.

