@@ -13,7 +13,7 @@ use lib.Seq.{drop-cons, get_or-set_same, get_or-set_other}
 use borrow.Author.Tests.{leb-true, leb-false, eqb-true, eqb-false, eq-eqb, ne_eqb}
 use Rattle.spec.specs.Limits.{type_lines}
 use Rattle.spec.specs.Text.{same}
-use Rattle.spec.specs.Ticket.{TypeWord, t_unit, t_bool, t_bits, t_float, t_pointer, t_array, t_struct, t_tuple, t_opaque}
+use Rattle.spec.specs.Ticket.{TypeWord}
 use Rattle.spec.specs.Read.{alike, type_number}
 use Rattle.fields.proofs.Lines.{both_true}
 use Rattle.tables.specs.Tables.{tab, pick, row_of, type_word_by}
@@ -26,17 +26,9 @@ use Rattle.line_checks.proofs.RowLaws.{Stored, stored}
 -- ---------------------------------------------------------------- a key, number by number
 
 -- no number taken yet
-pub key_start : (w : TypeWord) (xs : List ℕ) → (type_number w < 4294967296) × (key_of (type_number w) xs ≡ key_from (type_number w) xs)
+pub key_start : (w : ℕ) (xs : List ℕ) → (w % 4294967296 < 4294967296) × (key_of w xs ≡ key_from (w % 4294967296) xs)
 unfolding key_of
-key_start t_unit xs = (lit< tt, refl)
-key_start t_bool xs = (lit< tt, refl)
-key_start t_bits xs = (lit< tt, refl)
-key_start t_float xs = (lit< tt, refl)
-key_start t_pointer xs = (lit< tt, refl)
-key_start t_array xs = (lit< tt, refl)
-key_start t_struct xs = (lit< tt, refl)
-key_start t_tuple xs = (lit< tt, refl)
-key_start t_opaque xs = (lit< tt, refl)
+key_start w xs = (omega arith, refl)
 
 module _ (o h : ℕ) (xs : List ℕ) (i : ℕ) (q : o ≡ key_from h (drop i xs)) where
   -- one number more
@@ -293,6 +285,6 @@ module _ (ws ls : List ℕ) (w : TypeWord) (n : ℕ) (xs : List ℕ) (i : Keyed 
   unlike_all = unlike_rows 0 n (omega arith)
 
 -- as the code finds it
-pub unlike_known : (ws ls : List ℕ) (w : TypeWord) (n : ℕ) (xs : List ℕ) (b : Bool) → Keyed ws ls n → b ≡ has_key ws (key_of (type_number w) xs) → b ≡ false
+pub unlike_known : (ws ls : List ℕ) (w : TypeWord) (n k : ℕ) (xs : List ℕ) (b : Bool) → Keyed ws ls n → k ≡ type_number w → b ≡ has_key ws (key_of k xs) → b ≡ false
     → false ≡ alike w xs (section (type_row ls) ws 0 n)
-unlike_known ws ls w n xs b i g h = sym (unlike_all ws ls w n xs i (sym g ∙ h))
+unlike_known ws ls w n k xs b i e g h = sym (unlike_all ws ls w n xs i (rw (← e) (sym g ∙ h)))

@@ -74,9 +74,9 @@ fn is_earlier(class: Class, counts: &Counts, x: u64) -> bool
 
 // Whether numbers are within their ranges, and are earlier lines' numbers where they name lines.
 #[derive(Clone, Copy)]
-struct Seen {
-    ranged: bool,
-    earlier: bool,
+pub struct Seen {
+    pub ranged: bool,
+    pub earlier: bool,
 }
 
 impl Seen {

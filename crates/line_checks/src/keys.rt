@@ -1,18 +1,15 @@
 // Keys of types: whether a type like a new one may be there, without comparing it with each.
 ghost use Rattle.std.specs.Prelude.{◌≡◌, ◌/◌, ◌≤◌, ◌<◌, length};
-ghost use Rattle.spec.specs.Read.{type_number};
 ghost use Rattle.line_checks.specs.Keys.{key_lines as keys_for, key_of, slot_of, stands as stands_of, has_key, noted};
-ghost use Rattle.line_checks.specs.Words.{word_of};
 
 use crate::limits;
-use crate::words::TypeWord;
 
 // A number from a type's word and its numbers.
 #[tactic(auto, using(crate::proofs::KeyLaws::keying))]
-fn key(word: TypeWord, numbers: &[u64]) -> u64
-    ensures { (result ≡ key_of (type_number (word_of word)) numbers.now) × (result < 4294967296) }
+fn key(word: u64, numbers: &[u64]) -> u64
+    ensures { (result ≡ key_of word numbers.now) × (result < 4294967296) }
 {
-    let mut h = word.number();
+    let mut h = word % 4294967296;
     for x in numbers {
         h = (h * 31 + x % 4294967296) % 4294967296;
     }
@@ -47,11 +44,11 @@ fn stands(word: u64, key: u64) -> bool
     word == 1 || word == key + 2
 }
 
-// Whether a type may have this word and these numbers.
+// Whether a type may have this word, by its number as it stands in a row, and these numbers.
 #[tactic(auto, using(crate::proofs::KeyLaws::known_is))]
-pub fn known(rows: &[u64], word: TypeWord, numbers: &[u64]) -> bool
+pub fn known(rows: &[u64], word: u64, numbers: &[u64]) -> bool
     requires { 40 ≤ length rows.now }
-    ensures { result ≡ has_key rows.now (key_of (type_number (word_of word)) numbers.now) }
+    ensures { result ≡ has_key rows.now (key_of word numbers.now) }
 {
     let k = key(word, numbers);
     let at = slot(rows.len(), k);
@@ -60,9 +57,9 @@ pub fn known(rows: &[u64], word: TypeWord, numbers: &[u64]) -> bool
 
 // Notes that a type has this word and these numbers.
 #[tactic(auto, using(crate::proofs::KeyLaws::noting))]
-pub fn note(rows: &mut [u64], word: TypeWord, numbers: &[u64])
+pub fn note(rows: &mut [u64], word: u64, numbers: &[u64])
     requires { 40 ≤ length rows.old }
-    ensures { rows.new ≡ noted rows.old (key_of (type_number (word_of word)) numbers.now) }
+    ensures { rows.new ≡ noted rows.old (key_of word numbers.now) }
 {
     let k = key(word, numbers);
     let at = slot(rows.len(), k);

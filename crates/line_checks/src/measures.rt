@@ -45,7 +45,7 @@ pub fn alike(rows: &[u64], lists: &[u64], counts: &Counts, word: TypeWord, numbe
     requires { Held rows.now counts.now × Roomy (length rows.now) counts.now × Keyed rows.now lists.now counts.now.types × (counts.now.used ≤ length lists.now) }
     ensures { result ≡ alike_of (word_of word) numbers.now (section (type_row lists.now) rows.now 0 counts.now.types) }
 {
-    if !known(rows, word, numbers) {
+    if !known(rows, word.number(), numbers) {
         return false;
     }
     for k in 0..counts.types {

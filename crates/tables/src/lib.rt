@@ -191,7 +191,7 @@ pub fn placed_in(lists: &[u64], start: u64, n: u64) -> Placed
 
 // Row k of the `count` variables or statics from `base` on.
 #[tactic(auto, unfolding(crate::specs::Tables::placed_at, crate::specs::Tables::numbers_at))]
-fn placed_row(rows: &[u64], lists: &[u64], base: u64, count: u64, k: u64) -> Option<Placed>
+pub fn placed_row(rows: &[u64], lists: &[u64], base: u64, count: u64, k: u64) -> Option<Placed>
     requires { base + count ≤ 1099511627776 }
     ensures { result ≡ placed_at rows.now lists.now base count k }
 {

@@ -57,7 +57,8 @@ fn put_line(line: &mut Line<'_>, e: Extent)
     };
     let row = line_row(line, e);
     if let LineKind::Types = line.form.kind {
-        note(line.rows, TypeWord::from(line.form.word), line.numbers);
+        let word = TypeWord::from(line.form.word).number();
+        note(line.rows, word, line.numbers);
     }
     put_row(line.rows, r, row);
 }

@@ -17,10 +17,10 @@ mod steps;
 
 // What is known of a line besides its form: what it measures if it is a type, its depth, and the sums over nodes with it.
 #[derive(Clone, Copy)]
-struct Extent {
-    own: Measure,
-    depth: u64,
-    sums: Measure,
+pub struct Extent {
+    pub own: Measure,
+    pub depth: u64,
+    pub sums: Measure,
 }
 
 // A line's numbers, behind those in use.

@@ -45,12 +45,12 @@ fn refused(refusal: Refusal, line: u64) -> ReadError
 
 // The text, where its next line begins, and what is read of it.
 #[derive(Drop)]
-struct Reader<'a> {
-    text: &'a [u8],
-    at: usize,
-    rows: &'a mut [u64],
-    lists: &'a mut [u64],
-    counts: Counts,
+pub struct Reader<'a> {
+    pub text: &'a [u8],
+    pub at: usize,
+    pub rows: &'a mut [u64],
+    pub lists: &'a mut [u64],
+    pub counts: Counts,
 }
 
 impl Reader<'_> {
