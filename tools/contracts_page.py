@@ -3,8 +3,8 @@
 
     python3 tools/contracts_page.py PORT OLD NEW > docs/DESIGN-PASS-CONTRACTS.md
 
-PORT is the kit's folder port (its contracts.py finds functions and definitions again), OLD and NEW are checkouts. tools/design_pass_gone.tsv
-of NEW names, for each function and definition that is gone, what states its promise now; for lemmas this is worked out from who cited them.
+PORT is the kit's folder port (its contracts.py finds functions and definitions again), OLD and NEW are checkouts. design_pass_gone.tsv beside
+this script names, for each function and definition that is gone, what states its promise now; for lemmas this is worked out from who cited them.
 """
 import collections
 import glob
@@ -94,7 +94,7 @@ def definition_changes():
 
 
 def gone():
-    path = os.path.join(NEW, 'tools/design_pass_gone.tsv')
+    path = os.path.join(os.path.dirname(os.path.abspath(__file__)), 'design_pass_gone.tsv')
     rows = [line.rstrip('\n').split('\t') for line in open(path, encoding='utf-8')] if os.path.exists(path) else []
     table = {(r[0], r[1], r[2]): (r[3], r[4] if len(r) > 4 else '') for r in rows if len(r) > 3}
     missing = []
@@ -138,7 +138,11 @@ def proofs(root):
 
 
 def answer(file):
-    return bool(re.search(r'(^|/)(Answers|Invariants|Loops?|Proof)\.antt$', file))
+    """Whether a file below proofs/ is one of a function's own folder; one of that name right in proofs/ has lemmas."""
+    return bool(re.search(r'/(Answers|Invariants|Loops?|Proof)\.antt$', file))
+
+
+RULESET = re.compile(r'^ *(?:pub )?ruleset (\S+)\s*=\s*(\([^()]*\)|\S+)', re.M)
 
 
 def papers(root):
@@ -196,19 +200,24 @@ def lemmas(old, new):
     for key, places in old.items():
         if not all(answer(f) for f, _ in places):
             by_name[key[1]].add(key)
+    paths = sorted(glob.glob(os.path.join(OLD, 'crates/*/proofs/**/*.antt'), recursive=True))
+    for path in paths:
+        for name, _ in RULESET.findall(open(path, encoding='utf-8').read()):
+            by_name[name].add((os.path.relpath(path, OLD).split(os.sep)[1], name))
 
     def cited(crate, raw, text):
         near = set(re.findall(r'Rattle\.(\w+)\.(?:proofs|specs)', raw)) | {crate}
         return {key for w in set(words.findall(text)) for key in by_name.get(w, ()) if key[0] in near}
 
-    for path in sorted(glob.glob(os.path.join(OLD, 'crates/*/proofs/**/*.antt'), recursive=True)):
+    for path in paths:
         rel = os.path.relpath(path, OLD).split(os.sep)
         raw = open(path, encoding='utf-8').read()
-        if answer(rel[-1]) and len(rel) > 4:
+        if answer('/'.join(rel[3:])):
             for key in cited(rel[1], raw, raw):
                 ends[key].add(f'{rel[1]} {rel[-2]}')
             continue
-        for name, texts in definitions(raw).items():
+        # A lemma serves what a set of rules that has it serves.
+        for name, texts in [*definitions(RULESET.sub('', raw)).items(), *((n, [t]) for n, t in RULESET.findall(raw))]:
             for key in cited(rel[1], raw, ' '.join(texts)):
                 if key != (rel[1], name):
                     users[key].add((rel[1], name))
@@ -246,6 +255,33 @@ def lemmas(old, new):
         print(f'- spec `{key[1]}`')
 
 
+def public(root):
+    """Whether a type of src/, and a name of specs/ or of the lemmas of proofs/, is public."""
+    out = {}
+    for path in glob.glob(os.path.join(root, 'crates/*/src/*.rt')):
+        crate = os.path.relpath(path, root).split(os.sep)[1]
+        for m in re.finditer(r'^(pub )?(?:struct|enum|trait) (\w+)', open(path, encoding='utf-8').read(), re.M):
+            out['type', crate, m[2]] = out.get(('type', crate, m[2]), False) or bool(m[1])
+    for path in glob.glob(os.path.join(root, 'crates/*/specs/**/*.antt'), recursive=True) + glob.glob(os.path.join(root, 'crates/*/proofs/*.antt')):
+        crate, kind = os.path.relpath(path, root).split(os.sep)[1:3]
+        for name, texts in definitions(open(path, encoding='utf-8').read()).items():
+            at = any(re.match(r'(?:(?:abbrev|opaque|unfoldable|instance)\s+)*pub\b', t) for t in texts)
+            out[kind, crate, name] = out.get((kind, crate, name), False) or at
+    return out
+
+
+def hidden():
+    print('\n## Names that stand and are no longer public\n')
+    old, new = public(OLD), public(NEW)
+    lost = [k for k in sorted(old) if old[k] and new.get(k) is False]
+    print('Functions: see the head of this page. No public function took or gave one of the types but `add`, in a private module of ticket, which takes `Extent`. '
+          'Of the lemmas, conversions cited `pointer_of`, `pointer_read` and `pointer_size` of steps, for what is `pointer_value` of steps now; the others served their own crates. '
+          'Public again since: `placed_row` of tables, `Seen`, `Extent`, `Reader`, `Form`, `Parts`.\n')
+    for kind, label in (('type', 'Types'), ('specs', 'Of specs/'), ('proofs', 'Of proofs/')):
+        found = [(c, n) for k, c, n in lost if k == kind]
+        print(f'- {label}: ' + ('; '.join(f'{c}: ' + ', '.join(f'`{n}`' for k, n in found if k == c) for c in sorted({c for c, _ in found})) or 'none'))
+
+
 def edits():
     print('\n## Must-fail edits whose text changed\n')
     old_new = D['edits and outputs']
@@ -260,7 +296,7 @@ def edits():
 
 def main():
     print('# What changed in the design pass, old and new side by side\n')
-    print('Old is the commit in the first line of docs/DESIGN-PASS.md, new is the tree in which the pass ends, before E3; written by `python3 tools/contracts_page.py PORT OLD NEW`, '
+    print('Old is the commit in the first line of docs/DESIGN-PASS.md, new is the tree of 01fa971, in which the pass ends, before E3; written by `python3 tools/contracts_page.py PORT OLD NEW`, '
           'PORT being the kit\'s folder port, OLD and NEW two checkouts.\n')
     print(f'Functions {D["functions"][0]} → {D["functions"][1]}, with `ensures` {D["with ensures"][0]} → {D["with ensures"][1]}; contracts the same {D["contracts the same"]}, '
           f'changed {len(D["contracts changed"])}; signatures changed {len(D["signatures changed"])}. Definitions {D["definitions"]["old"]} → {D["definitions"]["new"]}, the same {D["definitions"]["same"]}. '
@@ -275,6 +311,7 @@ def main():
     old, new = proofs(OLD), proofs(NEW)
     theorems(old, new)
     lemmas(old, new)
+    hidden()
     edits()
 
 
