@@ -30,11 +30,15 @@ one_read T d storage h ty p l = read_bytes_as_type T d storage ty p h (counters_
 abbrev all_read : Tables → List ℕ → ℕ → ℕ → Parts → hir.At → ℕ → ℕ → ℕ → Lowering → Outcome Values
 all_read T lists d storage ps h i n o l = read_fields T (λ t p. read_bytes_as_type T d storage t p) o (part_types lists ps i n) h (counters_in l)
 
--- of the n parts, begun at byte o, those from i on are left, at byte p: what these leave, the whole leaves; and no mark is set
+-- of the n parts, begun at byte o, those from i on are left, at byte p: what these leave, the whole leaves
 pub record Rest (T : Tables) (lists : List ℕ) (d storage : ℕ) (ps : Parts) (h : hir.At) (n o : ℕ) (l₀ : Lowering) (i p : ℕ) (l : Lowering) : Type 0 where
   pub room : PartsRoom T h.node (part_types lists ps i (n - i)) p l
   pub whole : {l' : Lowering} {r : Result (Unit {0}) (Refused Refusal)} → MeetsList (n - i) l (all_read T lists d storage ps h i (n - i) p l) l' r
       → MeetsList n l₀ (all_read T lists d storage ps h 0 n o l₀) l' r
+
+-- .. and the lent slices are as long as they were, with no mark set
+pub record Held (T : Tables) (lists : List ℕ) (d storage : ℕ) (ps : Parts) (h : hir.At) (n o : ℕ) (l₀ : Lowering) (i p : ℕ) (l : Lowering) : Type 0 where
+  pub rest : Rest T lists d storage ps h n o l₀ i p l
   pub holds : Holds l₀ l
   pub marks : SameMarks l₀ l
 
@@ -67,6 +71,21 @@ module _ {T : Tables} {lists : List ℕ} {d storage : ℕ} {ps : Parts} {h : hir
     unfolding read_fields ◌>>=◌
     rest_refused {x = x} {r} v q = g.whole (passed r x q (rw (parts_next lists ps i n k, shown_refused v refl)))
 
+    -- a part that is read, its head's record stored below what it left
+    pub rest_more : TypesRight T → {l1 : Lowering} {x : Val}
+        → MeetsValue (at_top l (l.top + 8)) (one_read T d storage h (part_type lists ps i) p l) l1 (Ok x)
+        → Rest T lists d storage ps h n o l₀ (i + 1) (p + size_of T (part_type lists ps i)) (with_stack l1 (sets l1.stack.now l.top (value_words x)))
+    unfolding read_fields ◌>>=◌ type_size
+    rest_more R {l1} {x} v =
+        let ty = part_type lists ps i in
+        let u = shown_done v refl in
+        record {
+          room = room_rest ty (sum_next (size_of T)) (sum_next (weight_of T)) g.room u (few_read T R d storage ty p h (counters_in l)) (length-sets l1.stack.now l.top (value_words x));
+          whole = λ w. g.whole (rw (parts_next lists ps i n k, u.is) (list_more (n - i) h u (rest_fits R) (omega arith) w));
+        }
+
+module _ {T : Tables} {lists : List ℕ} {d storage : ℕ} {ps : Parts} {h : hir.At} {n o : ℕ} {l₀ : Lowering} {i p : ℕ} {l : Lowering} (g : Held T lists d storage ps h n o l₀ i p l) where
+  module _ (k : i < n) where
     -- what a part leaves, read or refused
     pub rest_holds : {l1 : Lowering} → Holds (at_top l (l.top + 8)) l1 → Holds l₀ l1
     rest_holds a = holds_then g.holds (holds_from a)
@@ -74,17 +93,13 @@ module _ {T : Tables} {lists : List ℕ} {d storage : ℕ} {ps : Parts} {h : hir
     pub rest_marks : {l1 : Lowering} → SameMarks (at_top l (l.top + 8)) l1 → SameMarks l₀ l1
     rest_marks a = record { marks = a.marks ∙ g.marks.marks; same = a.same ∙ g.marks.same }
 
-    -- a part that is read, its head's record stored below what it left
-    pub rest_more : TypesRight T → {l1 : Lowering} {x : Val} → Holds (at_top l (l.top + 8)) l1 → SameMarks (at_top l (l.top + 8)) l1
+    -- a part that is read, with the slices held and no mark set
+    pub held_more : TypesRight T → {l1 : Lowering} {x : Val} → Holds (at_top l (l.top + 8)) l1 → SameMarks (at_top l (l.top + 8)) l1
         → MeetsValue (at_top l (l.top + 8)) (one_read T d storage h (part_type lists ps i) p l) l1 (Ok x)
-        → Rest T lists d storage ps h n o l₀ (i + 1) (p + size_of T (part_type lists ps i)) (with_stack l1 (sets l1.stack.now l.top (value_words x)))
-    unfolding read_fields ◌>>=◌ type_size
-    rest_more R {l1} {x} a b v =
-        let ty = part_type lists ps i in
-        let u = shown_done v refl in
+        → Held T lists d storage ps h n o l₀ (i + 1) (p + size_of T (part_type lists ps i)) (with_stack l1 (sets l1.stack.now l.top (value_words x)))
+    held_more R {l1} {x} a b v =
         record {
-          room = room_rest ty (sum_next (size_of T)) (sum_next (weight_of T)) g.room u (few_read T R d storage ty p h (counters_in l)) (length-sets l1.stack.now l.top (value_words x));
-          whole = λ w. g.whole (rw (parts_next lists ps i n k, u.is) (list_more (n - i) h u (rest_fits R) (omega arith) w));
+          rest = rest_more g.rest k R v;
           holds = holds_stack (length-sets l1.stack.now l.top (value_words x)) (rest_holds a);
           marks = record { marks = (rest_marks b).marks; same = (rest_marks b).same };
         }

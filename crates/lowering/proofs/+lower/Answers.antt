@@ -15,7 +15,7 @@ use Rattle.lowering.specs.Nodes.{kids}
 use Rattle.lowering.proofs.Sums.{node_after}
 use Rattle.lowering.proofs.StepLaws.{lowered, second_stops, first_stops, unary_meets, binary_meets, compare_meets, offset_meets, conversion_meets, reinterpret_meets, bit_meets, condition_stops, select_meets, extract_part, insert_part}
 use Rattle.lowering.proofs.RoomLaws.{tree_top, one_ready, one_stands, second_room, two_ready, above_room, insertable, select_room, other_room, condition_room, bit_room, select_ready, list_room}
-use Rattle.lowering.proofs.ListLaws.{rest_all, rest_none, rest_first, rest_refused, rest_holds, rest_more}
+use Rattle.lowering.proofs.ListLaws.{held_all, rest_none, rest_first, rest_refused, rest_holds, held_more}
 use Rattle.lowering.proofs.+lower.Goals as goal
 
 pub lower_node-lower_integer_unary-requires : goal.lower_node-lower_integer_unary-requires
@@ -162,15 +162,15 @@ pub lower_select-returns-clause-holds : goal.lower_select-returns-clause-holds
 lower_select-returns-clause-holds t c = holds_then (holds_then (holds_then (holds_then c.in_ok-yes.ensures.holds c.in_ok-no.ensures.holds) c.in_ok-condition.ensures.holds) c.in_ok-bit.ensures.holds) (holds_from c.lower_select.ensures.holds)
 
 pub lower_aggregate-loop-i-init : goal.lower_aggregate-loop-i-init
-lower_aggregate-loop-i-init t c = rest_all (list_room c.args.tables.now c.args.depth c.args.start c.args.n c.requires)
+lower_aggregate-loop-i-init t c = held_all (list_room c.args.tables.now c.args.depth c.args.start c.args.n c.requires)
 
 pub lower_aggregate-lower_expression-requires : goal.lower_aggregate-lower_expression-requires
-lower_aggregate-lower_expression-requires t c = (omega (arith, c.decreases), rw c.list_at.ensures (rest_first c.loop-i.invariant c.loop-i-test.true))
+lower_aggregate-lower_expression-requires t c = (omega (arith, c.decreases), rw c.list_at.ensures (rest_first c.loop-i.invariant.rest c.loop-i-test.true))
 
 pub lower_aggregate-returns-in_err-part-clause-meets : goal.lower_aggregate-returns-in_err-part-clause-meets
 unfolding lower_expression
 lower_aggregate-returns-in_err-part-clause-meets t c =
-    let m = rest_refused c.loop-i.invariant c.loop-i-test.true (rw c.list_at.ensures at c.in_err-part.ensures.meets) in
+    let m = rest_refused c.loop-i.invariant.rest c.loop-i-test.true (rw c.list_at.ensures at c.in_err-part.ensures.meets) in
     gather_stops c.args.h.ty c.args.n (lower_expressions (ticket_of c.args.tables.now.lines) (kids (ticket_of c.args.tables.now.lines) c.args.tables.now.lines.lists.now c.args.depth c.args.start c.args.n)) nowhere m c.from_residual.ensures.1
 
 pub lower_aggregate-returns-in_err-part-clause-holds : goal.lower_aggregate-returns-in_err-part-clause-holds
@@ -178,11 +178,11 @@ lower_aggregate-returns-in_err-part-clause-holds t c = rest_holds c.loop-i.invar
 
 pub lower_aggregate-loop-i-preserved : goal.lower_aggregate-loop-i-preserved
 lower_aggregate-loop-i-preserved t c =
-    rw (c.store8.ensures, c.value_words.ensures) (rest_more c.loop-i.invariant c.loop-i-test.true c.in_ok-part.ensures.holds (rw c.list_at.ensures at c.in_ok-part.ensures.meets))
+    rw (c.store8.ensures, c.value_words.ensures) (held_more c.loop-i.invariant c.loop-i-test.true c.in_ok-part.ensures.holds (rw c.list_at.ensures at c.in_ok-part.ensures.meets))
 
 pub lower_aggregate-returns-clause-meets : goal.lower_aggregate-returns-clause-meets
 unfolding lower_expression
-lower_aggregate-returns-clause-meets t c = gather_meets c.args.h.ty c.args.n (lower_expressions (ticket_of c.args.tables.now.lines) (kids (ticket_of c.args.tables.now.lines) c.args.tables.now.lines.lists.now c.args.depth c.args.start c.args.n)) nowhere (rest_none c.loop-i.invariant c.loop-i-test.false)
+lower_aggregate-returns-clause-meets t c = gather_meets c.args.h.ty c.args.n (lower_expressions (ticket_of c.args.tables.now.lines) (kids (ticket_of c.args.tables.now.lines) c.args.tables.now.lines.lists.now c.args.depth c.args.start c.args.n)) nowhere (rest_none c.loop-i.invariant.rest c.loop-i-test.false)
 
 pub lower_extract-extract-requires : goal.lower_extract-extract-requires
 unfolding node_sum

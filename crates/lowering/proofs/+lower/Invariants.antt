@@ -1,5 +1,5 @@
 use Rattle.std.proofs.Common.{◌+◌, ◌*◌}
-use Rattle.lowering.proofs.ListLaws.{Rest}
+use Rattle.lowering.proofs.ListLaws.{Held}
 use Rattle.lowering.proofs.+lower.Given as goal
 
 abbrev pub decreases-lower_expression : goal.decreases-lower_expression
@@ -28,4 +28,4 @@ decreases-lower_node l = l.depth * 4 + 3
 
 -- the parts from i on are left
 abbrev pub invariant-lower_aggregate-loop-i : goal.invariant-lower_aggregate-loop-i
-invariant-lower_aggregate-loop-i l = Rest l.tables l.depth l.start l.n l.initial.l l.i l.l
+invariant-lower_aggregate-loop-i l = Held l.tables l.depth l.start l.n l.initial.l l.i l.l

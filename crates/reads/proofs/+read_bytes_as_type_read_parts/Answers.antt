@@ -9,7 +9,7 @@ use Rattle.values.specs.Left.{stops}
 use Rattle.reads.specs.Reading.{at_of, part_type}
 use Rattle.reads.proofs.Lines.{Parted, size_at_of, read_here, plain_here, bool_size, parted_array, parted_fields, read_parted}
 use Rattle.reads.proofs.Laws.{leaf_meets, gather_meets, gather_stops, room_parts}
-use Rattle.reads.proofs.PartLaws.{rest_none, rest_first, rest_reach, rest_refused, rest_holds, rest_marks, rest_more}
+use Rattle.reads.proofs.PartLaws.{rest_none, rest_first, rest_reach, rest_refused, rest_holds, rest_marks, held_more}
 use Rattle.reads.proofs.+read_bytes_as_type_read_parts.Goals as goal
 use Rattle.reads.proofs.+read_bytes_as_type_read_parts.Goals.{read_bytes_as_type-in-Array, read_bytes_as_type-in-Struct, read_bytes_as_type-in-Struct-2}
 
@@ -76,10 +76,10 @@ read_bytes_as_type-returns-clause-meets t c =
     rw (read_parted a.tables.now a.ty parted a.depth a.storage.0 a.o c.if-depth-eq0.false) (gather_meets a.ty _ _ (at_of a.h) c.in_ok-read_parts.ensures.meets)
 
 pub read_parts-read_bytes_as_type-requires : goal.read_parts-read_bytes_as_type-requires
-read_parts-read_bytes_as_type-requires t c = (omega (arith, c.decreases), rw c.ty-ty.ensures (rest_first c.loop-i.invariant c.loop-i-test.true))
+read_parts-read_bytes_as_type-requires t c = (omega (arith, c.decreases), rw c.ty-ty.ensures (rest_first c.loop-i.invariant.rest c.loop-i-test.true))
 
 pub read_parts-returns-in_err-head-clause-meets : goal.read_parts-returns-in_err-head-clause-meets
-read_parts-returns-in_err-head-clause-meets t c = rest_refused c.loop-i.invariant c.loop-i-test.true (rw c.ty-ty.ensures at c.in_err-head.ensures.meets) c.from_residual.ensures.1
+read_parts-returns-in_err-head-clause-meets t c = rest_refused c.loop-i.invariant.rest c.loop-i-test.true (rw c.ty-ty.ensures at c.in_err-head.ensures.meets) c.from_residual.ensures.1
 
 pub read_parts-returns-in_err-head-clause-holds : goal.read_parts-returns-in_err-head-clause-holds
 read_parts-returns-in_err-head-clause-holds t c = rest_holds c.loop-i.invariant c.loop-i-test.true c.in_err-head.ensures.holds
@@ -90,14 +90,14 @@ read_parts-returns-in_err-head-clause-marks t c = rest_marks c.loop-i.invariant 
 pub read_parts-overflow_add-at : goal.read_parts-overflow_add-at
 read_parts-overflow_add-at t c =
     let s = rw c.ty-ty.ensures at c.type_size-at.ensures in
-    omega (arith, rest_reach c.loop-i.invariant c.loop-i-test.true, size_at_of c.args.tables.now (part_type c.args.tables.now.lines.lists.now c.args.parts c.loop-i.i), s)
+    omega (arith, rest_reach c.loop-i.invariant.rest c.loop-i-test.true, size_at_of c.args.tables.now (part_type c.args.tables.now.lines.lists.now c.args.parts c.loop-i.i), s)
 
 pub read_parts-loop-i-preserved : goal.read_parts-loop-i-preserved
 read_parts-loop-i-preserved t c =
     let T = c.args.tables.now in
     let s = rw c.ty-ty.ensures at c.type_size-at.ensures in
     let e = s ∙ sym (size_at_of T (part_type T.lines.lists.now c.args.parts c.loop-i.i)) in
-    rw (e, c.store8.ensures, c.value_words.ensures) (rest_more c.loop-i.invariant c.loop-i-test.true T.readable.types c.in_ok-head.ensures.holds c.in_ok-head.ensures.marks (rw c.ty-ty.ensures at c.in_ok-head.ensures.meets))
+    rw (e, c.store8.ensures, c.value_words.ensures) (held_more c.loop-i.invariant c.loop-i-test.true T.readable.types c.in_ok-head.ensures.holds c.in_ok-head.ensures.marks (rw c.ty-ty.ensures at c.in_ok-head.ensures.meets))
 
 pub read_parts-returns-clause-meets : goal.read_parts-returns-clause-meets
-read_parts-returns-clause-meets t c = rest_none c.loop-i.invariant c.loop-i-test.false
+read_parts-returns-clause-meets t c = rest_none c.loop-i.invariant.rest c.loop-i-test.false
